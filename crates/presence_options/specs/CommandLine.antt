@@ -49,10 +49,10 @@ linked_app =
     (option_rule (codes "per-address") Set))
     (option_rule (codes "handshakes") Set)
 
--- and those of proxies, of what everybody together may take, and of what an operator is told
+-- and those of proxies, of what everybody together may take, of what an operator is told, and of the keys of tokens
 abbrev pub serve_app : App
 serve_app =
-    with_rule (with_rule (with_rule (with_rule (with_rule (with_rule (with_rule (with_rule linked_app
+    with_rule (with_rule (with_rule (with_rule (with_rule (with_rule (with_rule (with_rule (with_rule linked_app
     (option_rule (codes "proxy") Append))
     (option_rule (codes "link-from") Append))
     (option_rule (codes "memory") Set))
@@ -60,7 +60,8 @@ serve_app =
     (option_rule (codes "topic-bytes") Set))
     (option_rule (codes "log") Set))
     (option_rule (codes "log-format") Set))
-    (option_rule (codes "metrics-port") Set)
+    (option_rule (codes "metrics-port") Set))
+    (option_rule (codes "token-keys") Set)
 
 -- the program itself, which is nothing without a command, and has a version
 abbrev pub top_app : App

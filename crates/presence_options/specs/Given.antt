@@ -148,6 +148,10 @@ format_in text = cond (bytes_eq text (codes "text")) (Some Plain) (cond (bytes_e
 abbrev pub metrics_port_given : List Row → Option Text
 metrics_port_given rows = first_of (codes "metrics-port") rows
 
+-- the file of the keys of tokens, if one is given
+abbrev pub token_keys_given : List Row → Option Text
+token_keys_given rows = first_of (codes "token-keys") rows
+
 abbrev pub is_yes : Option Text → Bool
 is_yes None = false
 is_yes (Some text) = bytes_eq text (codes "true")
@@ -287,6 +291,7 @@ pub record IsServed (rows : List Row) (o : ServeOptions) : Type 0 where
   pub link_from : WriteAddresses (link_from_given rows) o.link_from.items
   pub budgets : AreBudgetsGiven rows o.budgets
   pub reports : AreReportsGiven rows o.reports
+  pub token_keys : option_map string_bytes o.token_keys ≡ token_keys_given rows
 
 -- the words name this command, with these options
 abbrev pub Calls : List Text → Text → List Row → Type 0
@@ -497,6 +502,7 @@ pub record IsEdge (rows : List Row) (e : Edge) : Type 0 where
   pub link_from : WriteAddresses (link_from_given rows) e.link_from.items
   pub budgets : AreBudgetsGiven rows e.budgets
   pub reports : AreReportsGiven rows e.reports
+  pub token_keys : option_map string_bytes e.token_keys ≡ token_keys_given rows
 
 -- the node itself, its peers and its addresses are within their limits
 pub record IsNode (rows : List Row) : Type 0 where

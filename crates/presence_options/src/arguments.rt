@@ -7,7 +7,7 @@ use crate::help::{
     EXPLAIN_HELP, HANDSHAKES_HELP, LINK_FROM_HELP, LINK_LISTEN_HELP, LINK_PORT_HELP,
     LINK_VERSION_HELP, LISTEN_HELP, LOG_FORMAT_HELP, LOG_HELP, MEMORY_HELP, METRICS_PORT_HELP,
     NAME_HELP, NOTICES_HELP, ORIGIN_HELP, PEER_HELP, PER_ADDRESS_HELP, PORT_HELP, PROXY_HELP,
-    ROUTE_HELP, SHARDS_HELP, TOPIC_BYTES_HELP, TOPIC_ROWS_HELP, WORKERS_HELP,
+    ROUTE_HELP, SHARDS_HELP, TOKEN_KEYS_HELP, TOPIC_BYTES_HELP, TOPIC_ROWS_HELP, WORKERS_HELP,
 };
 use clap::{Arg, ArgAction};
 use std::alloc::Global;
@@ -296,4 +296,16 @@ pub(crate) fn metrics_port_option<'a>(alloc: Global) -> Arg<'a>
         .value_name("PORT")
         .action(ArgAction::Set)
         .help(METRICS_PORT_HELP)
+}
+
+/// `--token-keys FILE`.
+pub(crate) fn token_keys_option<'a>(alloc: Global) -> Arg<'a>
+    ensures rule { rule_of result ≡ option_rule (codes "token-keys") ArgAction.Set }
+    ensures local { result.global ≡ false }
+{
+    Arg::new(alloc, "token-keys")
+        .long("token-keys")
+        .value_name("FILE")
+        .action(ArgAction::Set)
+        .help(TOKEN_KEYS_HELP)
 }

@@ -11,14 +11,14 @@ use crate::arguments::{
     explain_flag, handshakes_option, incarnation_option, link_from_option, link_listen_option,
     link_port_option, link_version_option, listen_option, log_format_option, log_option,
     memory_option, metrics_port_option, name_option, notices_flag, origin_option, peer_option,
-    per_address_option, port_option, proxy_option, route_option, shards_option, topic_bytes_option,
-    topic_rows_option, workers_option,
+    per_address_option, port_option, proxy_option, route_option, shards_option, token_keys_option,
+    topic_bytes_option, topic_rows_option, workers_option,
 };
 use crate::fault::{UsageCause, UsageFault};
 use crate::found::{
     given_addresses, given_handshakes, given_life, given_link_port, given_metrics_port,
-    given_number, given_origins, given_peers, given_per_address, given_routes, is_flagged,
-    text_given,
+    given_number, given_origins, given_peers, given_per_address, given_routes, given_token_keys,
+    is_flagged, text_given,
 };
 use crate::help::{
     ALL_OPTIONS, FOLD_REFUSALS, FOLD_TAKES, FOLD_USAGE, INCARNATION_HELP, SERVE_ENDS, SERVE_TAKES,
@@ -109,7 +109,8 @@ fn serve_command<'a>(alloc: Global) -> Result<Command<'a>, AllocError>
         .arg(topic_bytes_option(alloc))?
         .arg(log_option(alloc))?
         .arg(log_format_option(alloc))?
-        .arg(metrics_port_option(alloc))
+        .arg(metrics_port_option(alloc))?
+        .arg(token_keys_option(alloc))
 }
 
 // The whole command line.
@@ -234,14 +235,15 @@ fn stdio_options(alloc: Global, matches: &ArgMatches<'_>) -> Result<StdioOptions
     })
 }
 
-// What stands beside the node itself: proxies, the addresses of links, what everybody together may take, and what an
-// operator is told.
+// What stands beside the node itself: proxies, the addresses of links, what everybody together may take, what an operator
+// is told, and the file of the keys of tokens.
 #[derive(Drop)]
 struct Edge {
     proxies: Vec<IpAddr>,
     link_from: Vec<IpAddr>,
     budgets: Budgets,
     reports: Reports,
+    token_keys: Option<String>,
 }
 
 // The rules of the options that are numbers or addresses.
@@ -323,11 +325,13 @@ fn edge_of(alloc: Global, matches: &ArgMatches<'_>) -> Result<Edge, UsageFault>
     let link_from = given_addresses(alloc, matches, LINKS_FROM)?;
     let budgets = budgets_of(alloc, matches)?;
     let reports = reports_of(alloc, matches)?;
+    let token_keys = given_token_keys(alloc, matches)?;
     Ok(Edge {
         proxies,
         link_from,
         budgets,
         reports,
+        token_keys,
     })
 }
 
@@ -355,6 +359,7 @@ fn serve_options(alloc: Global, matches: &ArgMatches<'_>) -> Result<ServeOptions
         link_from,
         budgets,
         reports,
+        token_keys,
     } = edge_of(alloc, matches)?;
     Ok(ServeOptions {
         name,
@@ -375,6 +380,7 @@ fn serve_options(alloc: Global, matches: &ArgMatches<'_>) -> Result<ServeOptions
         link_from,
         budgets,
         reports,
+        token_keys,
     })
 }
 

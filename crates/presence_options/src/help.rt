@@ -98,6 +98,11 @@ pub(crate) const METRICS_PORT_HELP: &str =
 At the address of --link-listen; /metrics then isn't at the port of
 clients";
 
+pub(crate) const TOKEN_KEYS_HELP: &str =
+    "A file of keys, one a line: each client shows a token that is signed under one of them
+A line is a key of 32 bytes at least, or `base64url:` and what encodes one
+[default: none, and clients show no tokens]";
+
 pub(crate) const SHARDS_HELP: &str = "How many shards the topics are dealt to, 1 to 4 [default: 4]";
 
 pub(crate) const WORKERS_HELP: &str = "How many threads answer clients, 1 to 64 [default: 4]
@@ -118,6 +123,7 @@ Options of serve:
       --listen <ADDRESS>       The address of the port of clients [default: 127.0.0.1]
       --origin <ORIGIN>        Where pages may connect from; up to 64 times [default: any]
       --proxy <ADDRESS>        A proxy that is believed; up to 16 times [default: none]
+      --token-keys <FILE>      Keys of the tokens that clients show [default: they show none]
       --per-address <NUMBER>   Clients that one address may have, 1 to 65536 [default: half of all]
       --handshakes <NUMBER>    Handshakes a second of one address, 1 to 1000 [default: 20]
       --shards <NUMBER>        How many shards the topics are dealt to, 1 to 4 [default: 4]
@@ -238,4 +244,4 @@ NAME=HOST:PORT, as often as one likes, --listen ADDRESS, --link-listen ADDRESS, 
 --link-from ADDRESS, up to 16 times --proxy ADDRESS, up to 64 times --origin ORIGIN, scheme://host
 or scheme://host:port, --per-address NUMBER, 1 to 65536, --handshakes NUMBER, 1 to 1000, --memory
 MB, 32 to 16777216, --topic-rows NUMBER, 1 to 1048576, --topic-bytes NUMBER, 1024 to 1073741824,
---log refused, all or none, and --log-format text or json";
+--log refused, all or none, --log-format text or json, and --token-keys FILE";

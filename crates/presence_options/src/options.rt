@@ -134,7 +134,8 @@ pub struct Reports {
 /// are spoken, the nodes that are linked to, the addresses of both ports, and the origins whose pages may connect, or none
 /// where those of any may. Without an incarnation the node takes that of the clock. How many clients one address may have
 /// at once, and how many handshakes a second, are left to the server where they are none. Links come from any address where
-/// `link_from` is none. What `proxies` tell of their clients' addresses is believed.
+/// `link_from` is none. What `proxies` tell of their clients' addresses is believed. Clients show tokens that are signed under
+/// a key of the file `token_keys`, or none where there is no such file.
 #[derive(Debug, Drop)]
 pub struct ServeOptions {
     pub name: NodeName,
@@ -155,6 +156,7 @@ pub struct ServeOptions {
     pub link_from: Vec<IpAddr>,
     pub budgets: Budgets,
     pub reports: Reports,
+    pub token_keys: Option<String>,
     ghost is_count: { ForSome incarnation IsCount },
     ghost few_origins: { vec_len origins ≤ MAX_ORIGINS },
     ghost few_proxies: { vec_len proxies ≤ MAX_PROXIES },

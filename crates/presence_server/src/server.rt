@@ -2,6 +2,7 @@
 ghost use Rattle.std.specs.Prelude.{◌≡◌};
 
 use crate::door::Door;
+use crate::key_ring::KeyRing;
 use crate::place::Workplace;
 use hook_registry::{PresenceHooks, Routes};
 use link_threads::{LinkRuntime, LinkTask, Links, Wakes};
@@ -90,6 +91,8 @@ pub struct Server<'a, H, L: Lanes> {
     pub door_bell: Bell,
     pub links: Links,
     pub stopped: AtomicBool,
+    /// Under which keys clients sign in, if they have to.
+    pub keys: KeyRing,
     ghost all_shards: { links.shards ≡ pool.shards },
 }
 
@@ -112,6 +115,7 @@ impl<'a, H, L: Lanes> Drop for Server<'a, H, L> {
             door_bell,
             links,
             stopped,
+            keys,
         } = self;
         drop(pool);
         drop(budgets);
@@ -122,6 +126,7 @@ impl<'a, H, L: Lanes> Drop for Server<'a, H, L> {
         drop(door_bell);
         drop(links);
         drop(stopped);
+        drop(keys);
     }
 }
 
@@ -183,6 +188,7 @@ impl<'a, H, L: Lanes> Server<'a, H, L> {
             door_bell,
             links,
             stopped,
+            keys,
         } = self;
         drop(budgets);
         drop(memory);
@@ -192,6 +198,7 @@ impl<'a, H, L: Lanes> Server<'a, H, L> {
         drop(door_bell);
         drop(links);
         drop(stopped);
+        drop(keys);
         pool
     }
 }

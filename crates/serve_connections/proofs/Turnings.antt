@@ -7,13 +7,14 @@ use Rattle.phx_message.specs.Reading.{decoded}
 use Rattle.phx_message.specs.declared.message.TheConstants.Limits as the_limits
 use Rattle.channel_session.specs.Delivery.{DeliveredBy, InForce}
 use Rattle.channel_session.specs.declared.frames.Delivery.{Delivery}
-use Rattle.channel_session.specs.Ran.{RanBy, texts_in}
+use Rattle.channel_session.specs.Ran.{texts_in}
 use Rattle.channel_session.specs.declared.fault.SessionFault.{SessionFault}
 use Rattle.channel_session.specs.declared.fault.SessionFault.TheVariants.{Failed}
 use Rattle.channel_pieces.specs.Piecewise.{Piecewise}
 use Rattle.channel_pieces.specs.declared.telling.Telling.{Telling}
 use Rattle.serve_connections.specs.Hearing.{Hears, is_message}
-use Rattle.serve_connections.specs.Turning.{Around, AnswersText, BearsOut, BearsSilence, ClosesFor, Continues, Deals, EndsSession, GoOut, Responds, Serves, StopsServing, TakesDelivery, TakesTurn, dealt, dealt_texts, is_owed_ping, may_have_more, patience, progress_of, room_in}
+use Rattle.serve_connections.specs.Turning.{Around, AnswersText, BearsOut, BearsSilence, ClosesFor, Continues, Deals, EndsSession, GoOut, Responds, Serves, ServesIf, StopsServing, TakesDelivery, TakesTurn, dealt, dealt_texts, is_owed_ping, may_have_more, patience, progress_of, room_in}
+use Rattle.serve_connections.specs.Signed.{RunsText, leave}
 use Rattle.serve_connections.specs.Sparing.{Spares}
 use Rattle.serve_connections.specs.declared.connection.TheConstants.{MAX_DEALT}
 use Rattle.serve_connections.specs.declared.cause.Cause.{Cause}
@@ -23,8 +24,11 @@ use Rattle.serve_connections.specs.declared.connection.Progress.{Progress}
 use Rattle.serve_connections.specs.declared.connection.Stage.{Stage}
 use Rattle.serve_connections.specs.declared.connection.Stage.TheVariants.{Open, Ending}
 use Rattle.serve_connections.specs.declared.hearing.Heard.{Heard}
+use Rattle.serve_connections.specs.declared.moment.Moment.{Moment}
+use Rattle.tokens.specs.declared.grant.Grant.{Grant}
+use Rattle.tokens.specs.declared.signing.Signing.{Signing}
 
-module _ {S K P : Type 0} (w : Around S P) (routes : List (List ℕ × ℕ)) (now : ℕ) where
+module _ {S K P : Type 0} (w : Around S P) (routes : List (List ℕ × ℕ)) (now : Moment) where
   pub serves : (old mid new : Connection S K) (before between after : P) (heard : Heard) (socket : Socket S) (first : Result (Unit {0}) Cause) (came : Bool) (result : Result Bool Cause)
       → Hears w.remaining old.socket socket heard → Responds w routes now heard (record old { socket = socket }) mid before between first
       → came ≡ is_message heard → Continues w came first mid new between after result → Serves w routes now old new before after result
@@ -40,11 +44,11 @@ module _ {S K P : Type 0} (w : Around S P) (routes : List (List ℕ × ℕ)) (no
         continues = subst (λ (b : Bool). Continues w b first mid new between after result) is continues;
       }
 
-  pub goes_on : (old new : Connection S K) (before after : P) (came : Bool) → Serves w routes now old new before after (Ok came) → TakesTurn w routes now old new before after (progress_of came)
+  pub goes_on : (old new : Connection S K) (before after : P) (came : Bool) → ServesIf w (leave now.signing old.grant) routes now old new before after (Ok came) → TakesTurn w routes now old new before after (progress_of came)
   goes_on old new before after came h =
       record { served = new; between = after; outcome = Ok came; serves = h; goes_on = (refl, refl, refl) }
 
-  pub ends : (old served closed new : Connection S K) (before between after : P) (cause : Cause) (result : Progress) → Serves w routes now old served before between (Err cause)
+  pub ends : (old served closed new : Connection S K) (before between after : P) (cause : Cause) (result : Progress) → ServesIf w (leave now.signing old.grant) routes now old served before between (Err cause)
       → ClosesFor w.contents cause served.socket closed.socket → closed ≡ record served { socket = closed.socket } → EndsSession w.step cause closed new between after result
       → TakesTurn w routes now old new before after result
   ends old served closed new before between after cause result h closes kept e =
@@ -95,24 +99,30 @@ turned {S} {K} old mid new kept held session told =
     ∙ (ap (λ (s : InForce). record old { socket = new.socket; session = s; telling = mid.telling }) (sym session)
     ∙ ap (λ (u : Telling). record old { socket = new.socket; session = new.session; telling = u }) (sym told)))
 
+-- the same of a call behind which something else may be granted
+answered : {S K : Type 0} (old mid new : Connection S K) → new ≡ record mid { socket = new.socket } → mid ≡ record old { session = mid.session; telling = mid.telling; grant = mid.grant }
+    → new ≡ record old { socket = new.socket; session = new.session; telling = new.telling; grant = new.grant }
+answered {S} {K} old mid new kept held =
+    let P : Connection S K → Type 0 = λ c. c ≡ record old { socket = c.socket; session = c.session; telling = c.telling; grant = c.grant } in
+    let at_mid : record mid { socket = new.socket } ≡ record old { socket = new.socket; session = mid.session; telling = mid.telling; grant = mid.grant } = ap (λ (c : Connection S K). record c { socket = new.socket }) held in
+    subst P (sym kept) at_mid
+
 -- what was answered goes out
-pub answers : {S K P : Type 0} (w : Around S P) (routes : List (List ℕ × ℕ)) (text : List ℕ) (old mid new : Connection S K) (before after : P)
+pub answers : {S K P : Type 0} (w : Around S P) (signing : Option Signing) (routes : List (List ℕ × ℕ)) (text : List ℕ) (old mid new : Connection S K) (before after : P)
     (answer : Result (Vec (String Global) Global) SessionFault) (texts : Vec (String Global) Global) (result : Result (Unit {0}) Cause)
-    → RanBy w.worded (Piecewise (w.step old.session.pid)) routes old.session (decoded the_limits.CLIENT text) (before, old.telling.untold) (after, mid.telling.untold) mid.session answer
-    → mid ≡ record old { session = mid.session; telling = mid.telling } → answer ≡ Ok texts
-    → GoOut w.contents mid.socket new.socket (Ok (texts_in texts)) result → new ≡ record mid { socket = new.socket } → AnswersText w routes text old new before after result
-answers {S} {K} {P} w routes text old mid new before after answer texts result ran held is sent kept =
-    let session : new.session ≡ mid.session = ap (λ (c : Connection S K). c.session) kept in
-    let told : new.telling ≡ mid.telling = ap (λ (c : Connection S K). c.telling) kept in
+    → RunsText w.worded (w.step old.session.pid) routes signing old.grant old.session (decoded the_limits.CLIENT text) (before, old.telling.untold) (after, mid.telling.untold) mid.session mid.grant answer
+    → mid ≡ record old { session = mid.session; telling = mid.telling; grant = mid.grant } → answer ≡ Ok texts
+    → GoOut w.contents mid.socket new.socket (Ok (texts_in texts)) result → new ≡ record mid { socket = new.socket } → AnswersText w signing routes text old new before after result
+answers {S} {K} {P} w signing routes text old mid new before after answer texts result ran held is sent kept =
+    let Ran : InForce → Telling → Option Grant → Result (Vec (String Global) Global) SessionFault → Type 0 = λ s u g r. RunsText w.worded (w.step old.session.pid) routes signing old.grant old.session (decoded the_limits.CLIENT text) (before, old.telling.untold) (after, u.untold) s g r in
+    let Q : Connection S K → Type 0 = λ c. Ran c.session c.telling c.grant (Ok texts) in
+    let at_mid : Ran mid.session mid.telling mid.grant (Ok texts) = subst (λ (r : Result (Vec (String Global) Global) SessionFault). Ran mid.session mid.telling mid.grant r) is ran in
     let socket : mid.socket ≡ old.socket = ap (λ (c : Connection S K). c.socket) held in
     record {
       answer = Ok texts;
-      ran =
-          subst (λ (r : Result (Vec (String Global) Global) SessionFault). RanBy w.worded (Piecewise (w.step old.session.pid)) routes old.session (decoded the_limits.CLIENT text) (before, old.telling.untold) (after, new.telling.untold) new.session r) is
-          (subst (λ (s : InForce). RanBy w.worded (Piecewise (w.step old.session.pid)) routes old.session (decoded the_limits.CLIENT text) (before, old.telling.untold) (after, new.telling.untold) s answer) (sym session)
-          (subst (λ (u : Telling). RanBy w.worded (Piecewise (w.step old.session.pid)) routes old.session (decoded the_limits.CLIENT text) (before, old.telling.untold) (after, u.untold) mid.session answer) (sym told) ran));
+      ran = subst Q (sym kept) at_mid;
       sent = subst (λ (s : Socket S). GoOut w.contents s new.socket (Ok (texts_in texts)) result) socket sent;
-      kept = turned old mid new kept held session told;
+      kept = answered old mid new kept held;
     }
 
 -- what was delivered within the room that there was goes out

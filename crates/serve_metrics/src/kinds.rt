@@ -25,6 +25,7 @@ pub(crate) struct Answers {
     full: Count,
     crowded: Count,
     hasty: Count,
+    unauthorized: Count,
 }
 
 impl Answers {
@@ -47,6 +48,7 @@ impl Answers {
             full: Count::new(),
             crowded: Count::new(),
             hasty: Count::new(),
+            unauthorized: Count::new(),
         }
     }
 
@@ -70,6 +72,7 @@ impl Answers {
             Answer::Full => &self.full,
             Answer::Crowded => &self.crowded,
             Answer::Hasty => &self.hasty,
+            Answer::Unauthorized(_) => &self.unauthorized,
         }
     }
 
@@ -92,6 +95,7 @@ impl Answers {
             full: self.full.get(),
             crowded: self.crowded.get(),
             hasty: self.hasty.get(),
+            unauthorized: self.unauthorized.get(),
         }
     }
 }
@@ -105,6 +109,7 @@ pub(crate) struct Ends {
     policy: Count,
     size: Count,
     error: Count,
+    unauthorized: Count,
     client: Count,
     stream: Count,
 }
@@ -118,6 +123,7 @@ impl Ends {
             policy: Count::new(),
             size: Count::new(),
             error: Count::new(),
+            unauthorized: Count::new(),
             client: Count::new(),
             stream: Count::new(),
         }
@@ -132,6 +138,7 @@ impl Ends {
             Ended::Policy => &self.policy,
             Ended::Size => &self.size,
             Ended::Error => &self.error,
+            Ended::Unauthorized => &self.unauthorized,
             Ended::Client => &self.client,
             Ended::Stream => &self.stream,
         }
@@ -145,6 +152,7 @@ impl Ends {
             policy: self.policy.get(),
             size: self.size.get(),
             error: self.error.get(),
+            unauthorized: self.unauthorized.get(),
             client: self.client.get(),
             stream: self.stream.get(),
         }

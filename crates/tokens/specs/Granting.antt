@@ -28,3 +28,10 @@ lets_track g now topic key = lets_join g now topic && is_subject g.subject key
 -- the client may shout there
 abbrev pub lets_shout : Granted → ℕ → List ℕ → Bool
 lets_shout g now topic = lets_join g now topic && g.talks
+
+-- both are of the same subject, or of none
+abbrev pub same_subject : Option (List ℕ) → Option (List ℕ) → Bool
+same_subject None None = true
+same_subject None (Some other) = false
+same_subject (Some subject) None = false
+same_subject (Some subject) (Some other) = bytes_eq subject other

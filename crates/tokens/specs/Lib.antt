@@ -6,5 +6,6 @@ pub mod Held
 pub mod Judged
 pub mod Judging
 pub mod Parts
+pub mod Signing
 pub mod Unique
 pub mod Views

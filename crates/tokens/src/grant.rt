@@ -5,9 +5,11 @@ ghost use Rattle.tokens.specs.Views.{granted_by};
 ghost use Rattle.tokens.specs.Granting.{is_of_topics, is_subject as is_subject_of};
 ghost use Rattle.tokens.specs.Judged.{WasJudged};
 
-use presence_base::{Key, Topic};
+use crate::claims::Claims;
+use crate::fault::TokenFault;
+use crate::signing::Signing;
 use hmac_keys::Keys;
-use tokens::{Claims, TokenFault, verify};
+use presence_base::{Key, Topic};
 use std::alloc::Global;
 use std::sync::Arc;
 
@@ -59,32 +61,27 @@ impl Grant {
     ghost use Rattle.std.specs.Prelude.{◌≡◌, IfOk};
     ghost use Rattle.std.specs.Arc.{arc_value};
     ghost use Rattle.tokens.specs.Answers.{Gives};
-    ghost use Rattle.tokens.specs.Judging.{judged};
+    ghost use Rattle.tokens.specs.Held.{IsOf, granted};
+    ghost use Rattle.tokens.specs.Signing.{judged_at};
     ghost use Rattle.tokens.specs.Views.{granted_by};
-    ghost use Rattle.hmac_keys.specs.Keys.{key_bytes};
-    ghost use Rattle.tokens.specs.Granting.{lasts as lasts_in, lets_join as lets_join_in, lets_shout as lets_shout_in, lets_track as lets_track_in, is_of_topics};
+    ghost use Rattle.tokens.specs.Granting.{lasts as lasts_in, lets_join as lets_join_in, lets_shout as lets_shout_in, lets_track as lets_track_in, is_of_topics, same_subject};
 
-    /// Takes a token at this second, under one of these keys.
-    pub fn take(
-        alloc: Global,
-        keys: &Arc<Keys, Global>,
-        now: u64,
-        token: &[u8],
-    ) -> Result<Grant, TokenFault>
-        ensures exact { Gives (λ g. granted_by g.claims) result (judged (key_bytes (arc_value keys.now)) now token.now) }
-        ensures came_of { IfOk result (λ g. (arc_value g.keys ≡ arc_value keys.now) × (g.token.items ≡ token.now) × (g.since ≡ now)) }
+    /// Takes a token.
+    pub fn take(alloc: Global, signing: Signing<'_>, token: &[u8]) -> Result<Grant, TokenFault>
+        ensures exact { Gives (λ g. granted_by g.claims) result (judged_at signing.entry token.now) }
+        ensures came_of { IfOk result (IsOf (arc_value signing.entry.keys.now) signing.entry.second token.now) }
     {
-        let claims = verify(alloc, keys.as_slice(), now, token)?;
+        let claims = signing.judge(alloc, token)?;
         let Ok(token) = token.to_vec(alloc) else {
             return Err(TokenFault::OutOfMemory);
         };
-        let Ok(keys) = Arc::try_clone(keys) else {
+        let Ok(keys) = Arc::try_clone(signing.keys) else {
             return Err(TokenFault::OutOfMemory);
         };
         Ok(Grant {
             keys,
             token,
-            since: now,
+            since: signing.second,
             claims,
         })
     }
@@ -129,5 +126,15 @@ impl Grant {
         ensures { result ≡ lets_shout_in (granted_by self.now.claims) now topic.now }
     {
         self.lets_join(now, topic) && self.claims.talks
+    }
+    /// Whether both are of the same subject, if they are of one.
+    pub fn has_subject_of(&self, other: &Grant) -> bool
+        ensures { result ≡ same_subject (granted_by self.now.claims).subject (granted_by other.now.claims).subject }
+    {
+        match (&self.claims.subject, &other.claims.subject) {
+            (None, None) => true,
+            (Some(one), Some(other)) => one.as_str() == other.as_str(),
+            _ => false,
+        }
     }
 }

@@ -8,6 +8,7 @@
 //! - `specs/Claimed`: what a head and claims say
 //! - `specs/Certified`: what stands behind a token that is taken
 //! - `specs/Judged`: what a grant came of
+//! - `specs/Signing`, `specs/Held`: at which second and under which keys, and what a grant holds
 //! - `specs/Granting`: what is granted where a token grants this
 #![tactic(auto)]
 
@@ -18,6 +19,7 @@ mod judging;
 pub mod laws;
 mod parts;
 mod reading;
+mod signing;
 #[cfg(test)]
 mod tests;
 
@@ -25,3 +27,4 @@ pub use claims::Claims;
 pub use fault::TokenFault;
 pub use grant::Grant;
 pub use judging::verify;
+pub use signing::Signing;
