@@ -49,10 +49,10 @@ linked_app =
     (option_rule (codes "per-address") Set))
     (option_rule (codes "handshakes") Set)
 
--- and those of proxies, of what everybody together may take, of what an operator is told, and of the keys of tokens
+-- and those of proxies, of what everybody together may take, of what an operator is told, and of the files of keys
 abbrev pub serve_app : App
 serve_app =
-    with_rule (with_rule (with_rule (with_rule (with_rule (with_rule (with_rule (with_rule (with_rule linked_app
+    with_rule (with_rule (with_rule (with_rule (with_rule (with_rule (with_rule (with_rule (with_rule (with_rule linked_app
     (option_rule (codes "proxy") Append))
     (option_rule (codes "link-from") Append))
     (option_rule (codes "memory") Set))
@@ -61,11 +61,22 @@ serve_app =
     (option_rule (codes "log") Set))
     (option_rule (codes "log-format") Set))
     (option_rule (codes "metrics-port") Set))
-    (option_rule (codes "token-keys") Set)
+    (option_rule (codes "token-keys") Set))
+    (option_rule (codes "link-keys") Set)
+
+abbrev pub token_app : App
+token_app =
+    with_rule (with_rule (with_rule (with_rule (new_app (codes "token"))
+    (option_rule (codes "key") Set))
+    (option_rule (codes "sub") Set))
+    (option_rule (codes "topics") Append))
+    (option_rule (codes "for") Set)
 
 -- the program itself, which is nothing without a command, and has a version
 abbrev pub top_app : App
 top_app = on_top (λ s. record s { subcommand_required = true; has_version = true }) (new_app (codes "presence_node"))
 
 abbrev pub program : App
-program = with_subcommand (with_subcommand (with_subcommand top_app stdio_app.top) fold_app.top) serve_app.top
+program =
+    with_subcommand (with_subcommand (with_subcommand (with_subcommand top_app stdio_app.top) fold_app.top) serve_app.top)
+    token_app.top

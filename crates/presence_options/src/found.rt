@@ -3,7 +3,7 @@ ghost use Rattle.std.specs.Prelude.{◌≡◌, ◌≤◌, IfErr, IfOk, OnOk, map
 ghost use Rattle.std.specs.Option.{ForSome};
 ghost use Rattle.presence_base.specs.Refs.{IsCount};
 ghost use Rattle.clap.specs.Words.{first_of, found_of, rows_of};
-ghost use Rattle.presence_options.specs.Given.{AreByRule, AreFewOrigins, AreFewPatterns, AreHandshakes, AllArePeers, ArePeers, IsByRule, IsFor, IsLife, IsLinkPort, IsMetricsPort, IsPerAddress, WriteAddresses, flag_given, handshakes_given, life_given, link_port_in, metrics_port_given, number_in, origins_given, patterns_given, peers_given, per_address_given, texts_for, token_keys_given};
+ghost use Rattle.presence_options.specs.Given.{AreByRule, AreFewOrigins, AreFewPatterns, AreHandshakes, AllArePeers, ArePeers, IsByRule, IsFor, IsLife, IsLinkPort, IsMetricsPort, IsPerAddress, WriteAddresses, flag_given, handshakes_given, life_given, link_port_in, metrics_port_given, number_in, origins_given, patterns_given, peers_given, per_address_given, texts_for};
 ghost use Rattle.presence_options.specs.declared.options.TheConstants.{MAX_HANDSHAKES_PER_SECOND, MAX_ORIGINS, MAX_PER_ADDRESS};
 ghost use Rattle.presence_options.specs.Limits.{AreRoutes, IsFrom1To, IsFromTo, numbered};
 ghost use Rattle.presence_options.specs.Origins.{AreOrigins};
@@ -237,20 +237,22 @@ pub(crate) fn given_addresses(
     }
 }
 
-/// The file of the keys of tokens, if one is given.
+/// The text that an option is given, if it is given one.
 #[tactic(auto, using(crate::proofs::Rows::first_read))]
-pub(crate) fn given_token_keys(
+pub(crate) fn given_text(
     alloc: Global,
     matches: &ArgMatches<'_>,
+    option: &str,
 ) -> Result<Option<String>, UsageFault>
-    ensures file { IfOk result (λ file. option_map string_bytes file ≡ token_keys_given (rows_of (found_of matches.now))) }
+    ensures text { IfOk result
+        (λ text. option_map string_bytes text ≡ first_of option.now (rows_of (found_of matches.now))) }
     ensures memory { IfErr result (λ fault. fault ≡ UsageFault.Memory) }
 {
-    let Some(text) = matches.get_str("token-keys") else {
+    let Some(text) = matches.get_str(option) else {
         return Ok(None);
     };
     match String::from_str(alloc, text) {
-        Ok(file) => Ok(Some(file)),
+        Ok(text) => Ok(Some(text)),
         Err(_) => Err(UsageFault::Memory),
     }
 }

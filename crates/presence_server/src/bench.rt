@@ -128,6 +128,25 @@ fn outlook_of(client: &Client<ClientSocket>) -> Outlook {
     }
 }
 
+// Whether what was granted to a client has ended by this second.
+fn has_ended(client: &Client<ClientSocket>, second: u64) -> bool {
+    match &client.connection.grant {
+        Some(grant) => grant.ends() <= second,
+        None => false,
+    }
+}
+
+// Those to whom nothing is granted any more take the next turn, which ends them.
+fn mark_ended(worker: &mut Worker<ClientSocket>, second: u64) {
+    for place in 0..worker.len() {
+        let token = match worker.at(place) {
+            Some(client) if has_ended(client, second) => client.token,
+            _ => continue,
+        };
+        worker.mark(token);
+    }
+}
+
 // When a turn is taken.
 fn moment_of(milliseconds: u64, keys: &OwnKeys) -> Moment<'_> {
     Moment {
@@ -665,7 +684,7 @@ impl<L: Lanes> Bench<L> {
         server: &Server<'_, H, L>,
     ) {
         for _ in 0..MAX_LAST_TURNS {
-            self.keys.look(rt, &server.keys);
+            let _moved = self.keys.look(rt, &server.keys);
             self.take_in(rt, server);
             self.worker.stop_all();
             let _told = self.serve(rt, server);
@@ -719,7 +738,9 @@ impl<L: Lanes> Bench<L> {
         server: &Server<'_, H, L>,
         own: usize,
     ) {
-        self.keys.look(rt, &server.keys);
+        if self.keys.look(rt, &server.keys) {
+            mark_ended(&mut self.worker, self.keys.second());
+        }
         self.take_in(rt, server);
         if self.is_draining(server, own) {
             self.drain(rt, server, own);

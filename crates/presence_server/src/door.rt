@@ -683,7 +683,7 @@ impl Door {
             }
             self.take_in(rt, server);
             self.take_observers(server.alloc);
-            self.keys.look(rt, &server.keys);
+            let _moved = self.keys.look(rt, &server.keys);
             self.greet(rt, server);
             self.hand_on(rt, server);
             self.pause(rt);

@@ -78,19 +78,28 @@ impl OwnKeys {
         }
     }
 
-    /// Looks at which keys there are, and at the time, if there are any. Where the clock can't be read no token lasts.
-    pub fn look<R: Wait + Clock>(&mut self, rt: &R, ring: &KeyRing) {
+    /// Looks at which keys there are, and at the time, if there are any: whether another second has begun. Where the clock
+    /// can't be read no token lasts.
+    pub fn look<R: Wait + Clock>(&mut self, rt: &R, ring: &KeyRing) -> bool {
         let turns = ring.turns.load(Ordering::SeqCst);
         if turns != self.turns {
             self.turns = turns;
             self.keys = ring.shared(rt);
         }
-        if self.keys.is_some() {
-            self.second = match rt.since_1970() {
-                Ok(time) => time.as_secs(),
-                Err(_) => u64::MAX,
-            };
+        if self.keys.is_none() {
+            return false;
         }
+        let before = self.second;
+        self.second = match rt.since_1970() {
+            Ok(time) => time.as_secs(),
+            Err(_) => u64::MAX,
+        };
+        self.second != before
+    }
+
+    /// The time by which it looks at tokens, in seconds since 1970.
+    pub fn second(&self) -> u64 {
+        self.second
     }
 
     /// How clients sign in, if they have to.

@@ -13,4 +13,5 @@ returns c =
     let six = c.in_ok-arg-6.ensures.shape c.log_option.ensures.local ∙ ap₂ with_rule five c.log_option.ensures.rule in
     let seven = c.in_ok-arg-7.ensures.shape c.log_format_option.ensures.local ∙ ap₂ with_rule six c.log_format_option.ensures.rule in
     let eight = c.in_ok-arg-8.ensures.shape c.metrics_port_option.ensures.local ∙ ap₂ with_rule seven c.metrics_port_option.ensures.rule in
-    IfOk-weaker c.arg-9.result _ _ (λ r a. a.shape c.token_keys_option.ensures.local ∙ ap₂ with_rule eight c.token_keys_option.ensures.rule) c.arg-9.ensures
+    let nine = c.in_ok-arg-9.ensures.shape c.token_keys_option.ensures.local ∙ ap₂ with_rule eight c.token_keys_option.ensures.rule in
+    IfOk-weaker c.arg-10.result _ _ (λ r a. a.shape c.link_keys_option.ensures.local ∙ ap₂ with_rule nine c.link_keys_option.ensures.rule) c.arg-10.ensures
