@@ -17,6 +17,6 @@ CameOfToken g = WasJudged (arc_value g.keys) g.since g.token.items g.claims
 
 -- it is of this token, which was taken at this second under one of these keys
 pub record IsOf (keys : Keys) (now : ℕ) (token : List ℕ) (g : Grant) : Type 0 where
-  pub keys : arc_value g.keys ≡ keys
-  pub token : g.token.items ≡ token
-  pub since : g.since ≡ now
+  pub keys_are : arc_value g.keys ≡ keys
+  pub token_is : g.token.items ≡ token
+  pub since_is : g.since ≡ now
