@@ -1,10 +1,12 @@
 -- The keys of lines, as they are read one by one.
-use Rattle.std.proofs.Common.{◌≡◌, ℕ, List, [], ◌∷◌, Option, Some, None, Result, Ok, Bor, refl, sym, ap, subst, ◌∙◌}
+use Rattle.std.proofs.Common.{◌≡◌, ℕ, ◌<◌, ◌==◌, Bool, true, false, if◌then◌else◌, List, [], ◌∷◌, length, map, arith, Option, Some, None, Vec, get_or, Result, Ok, Err, Bor, refl, sym, ap, subst, ◌∙◌}
+use Rattle.std.proofs.lemmas.List.{length-map}
 use Rattle.std.proofs.lemmas.Iterator.{YieldsList}
 use Rattle.std.proofs.lemmas.Iterator.Splits.{YieldsList-from_lines}
 use Rattle.std.specs.Str.Iter.{lines_rest, lines_steps}
 use Rattle.std.specs.Str.Lines.{lines}
-use Rattle.hmac_keys.specs.Lines.{FailsKeys, added, keys_from, keys_in, some_keys, then_keys}
+use Rattle.std.specs.declared.alloc.Global.{Global}
+use Rattle.hmac_keys.specs.Lines.{AreKeysOf, FailsKeys, added, bytes_of, keys_from, keys_in, some_keys, then_keys}
 use Rattle.hmac_keys.specs.declared.fault.KeysFault.{KeysFault}
 use Rattle.hmac_keys.specs.declared.fault.KeysFault.TheVariants.{Line, NoKey, OutOfMemory}
 
@@ -47,3 +49,38 @@ pub none_left : {S : Type 0} (steps : S → Option (Bor (List ℕ)) → S → Ty
 unfolding keys_from
 none_left steps it next text found ([], yields, is) step = is
 none_left steps it next text found (l ∷ ls, yields, is) step = absurd (yields.runs.0 next step)
+
+-- ---- there is one at least
+
+abbrev ok_or : {A E : Type 0} → Result A E → A → A
+ok_or (Ok x) y = x
+ok_or (Err e) y = y
+
+some_kept : (b : Bool) (found ks : List (List ℕ)) → (length found == 0) ≡ b → (if b then Err NoKey else Ok found) ≡ Ok ks
+    → 0 < length ks
+some_kept true found ks is_none is = absurd (cc)
+some_kept false [] ks is_none is = absurd (cc)
+some_kept false (k ∷ found) ks is_none is =
+    let same : k ∷ found ≡ ks = ap (λ r. ok_or r (k ∷ found)) is in
+    subst (λ l. 0 < length l) same (omega arith)
+
+ok_then : (r : Result (List (List ℕ)) KeysFault) (more : List (List ℕ) → Result (List (List ℕ)) KeysFault) (ks : List (List ℕ))
+    → ((found : List (List ℕ)) → more found ≡ Ok ks → 0 < length ks) → then_keys r more ≡ Ok ks → 0 < length ks
+ok_then (Ok found) more ks there is = there found is
+ok_then (Err e) more ks there is = absurd (cc)
+
+pub some_there : (ls found ks : List (List ℕ)) → keys_from ls found ≡ Ok ks → 0 < length ks
+unfolding keys_from
+some_there [] found ks is = some_kept (length found == 0) found ks refl is
+some_there (l ∷ ls) found ks is =
+    ok_then (added found l) (keys_from ls) ks (λ more is_more. some_there ls more ks is_more) is
+
+pub some_keys_there : (text : List ℕ) (keys : Vec (Vec ℕ Global) Global) → AreKeysOf text keys → 0 < length keys.items
+some_keys_there text keys are =
+    subst (λ n. 0 < n) (length-map keys.items (λ k. k.items)) (some_there (lines text) [] (bytes_of keys) are)
+
+-- the first and those behind it
+pub first_kept : (items : List (Vec ℕ Global)) (v : Vec ℕ Global) → 0 < length items → v ≡ get_or items 0 v
+    → (rest : List (List ℕ)) × (map (λ k. k.items) items ≡ v.items ∷ rest)
+first_kept [] v some is = absurd (omega (arith, some))
+first_kept (k ∷ ks) v some is = (map (λ k. k.items) ks, ap (λ w. w.items ∷ map (λ k. k.items) ks) (sym is))

@@ -66,7 +66,7 @@ impl Drop for Keys {
 }
 
 impl Keys {
-    ghost use Rattle.std.specs.Prelude.{◌≡◌, Ok, map, string_bytes};
+    ghost use Rattle.std.specs.Prelude.{◌≡◌, ℕ, List, ◌∷◌, Ok, map, string_bytes};
     ghost use Rattle.hmac_keys.specs.Lines.{GivesKeys, keys_in, keys_with};
     ghost use Rattle.hmac_keys.specs.Keys.{key_bytes, key_text};
 
@@ -84,5 +84,11 @@ impl Keys {
         ensures file { keys_in (key_text self.now) ≡ Ok (key_bytes self.now) }
     {
         self.keys.as_slice()
+    }
+    /// The key of the first line: that under which something new is signed.
+    pub fn first(&self) -> &[u8]
+        ensures { (rest : List (List ℕ)) × (key_bytes self.now ≡ result.now ∷ rest) }
+    {
+        self.keys[0].as_slice()
     }
 }

@@ -177,6 +177,13 @@ pub fn help_ending(text: String) -> Ending
     printing(Stream::Output, text, 0)
 }
 
+/// A token goes to standard output.
+pub(crate) fn token_ending(token: String) -> Ending
+    ensures { Prints Stream.Output (string_bytes token) 0 result }
+{
+    printing(Stream::Output, token, 0)
+}
+
 /// What is wrong with a file of keys goes to standard error.
 pub(crate) fn keys_ending(alloc: Global, words: &str) -> Result<Ending, AllocError>
     ensures { IfOk result (Prints Stream.Error (codes "presence_node: " ++ words.now) 1) }

@@ -6,6 +6,7 @@ use crate::ending::{
 };
 use crate::error_stream::ErrorStream;
 use crate::serving::{secrets_of, serve};
+use crate::token::make_token;
 use crate::words::{texts_of, words_of};
 use hook_registry::{NoHooks, PresenceHooks};
 use presence_options::{FoldOptions, Options, ServeOptions, StdioOptions, UsageFault, options_of};
@@ -94,6 +95,7 @@ where
         }
         Ok(Options::Fold(options)) => fold_stdin(rt, options),
         Ok(Options::Serve(options)) => serve_clients(rt, hooks, &options),
+        Ok(Options::Token(options)) => make_token(rt, rt.alloc(), &options),
         Err(fault) => Ok(usage_ending(fault)),
     }
 }

@@ -9,5 +9,6 @@ mod running;
 mod secrets;
 mod stopping;
 
+pub(crate) use key_files::KeyFile;
 pub use running::serve;
 pub(crate) use secrets::secrets_of;

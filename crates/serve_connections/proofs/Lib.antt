@@ -8,7 +8,7 @@ pub mod Lists
 pub mod Numbers
 pub mod Takings
 pub mod Places
-pub mod Leaving
+pub mod Leavers
 pub mod Notes
 pub mod Marking
 pub mod Holding

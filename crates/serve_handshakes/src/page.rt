@@ -42,7 +42,7 @@ pub const PAGE: &str = r##"<!doctype html>
 //     ./presence_node serve
 //     http://127.0.0.1:4000/
 // It connects to where it came from. As a file it connects to 127.0.0.1, at port 4000 or the one that ?port= says.
-// ?name=ann&room=lobby joins at once.
+// ?name=ann&room=lobby joins at once, and so does ?token=, by which it signs in as phoenix.js does by its authToken.
 const asked = new URLSearchParams(location.search);
 const scheme = location.protocol === "https:" ? "wss" : "ws";
 const place = location.host || "127.0.0.1:" + (asked.get("port") || "4000");
@@ -50,7 +50,21 @@ const show = id => document.getElementById(id);
 const BEAT = 4000, LONGEST_WAIT = 30000, MOST_LINES = 200;
 // Where the server closes so before it answered the join, to try again would end the same way.
 const REFUSALS = { 1008: "no such room or name is taken", 1009: "that is too long" };
+const UNAUTHORIZED = 3000;
+const token = asked.get("token");
+const encoded = text => btoa(text).replaceAll("+", "-").replaceAll("/", "_").replaceAll("=", "");
+const protocols = token ? ["phoenix", "base64url.bearer.phx." + encoded(token)] : [];
 let name, topic, leave;
+
+// Under which name a token lets one be seen, where it can be read.
+function subject(token) {
+  try {
+    const claims = atob(token.split(".")[1].replaceAll("-", "+").replaceAll("_", "/"));
+    return JSON.parse(new TextDecoder().decode(Uint8Array.from(claims, byte => byte.charCodeAt(0)))).sub;
+  } catch {
+    return "";
+  }
+}
 
 // What another client says may be anything: only texts are shown, and no more of one than a few lines take.
 const text = (value, most = 200) => typeof value === "string" ? value.slice(0, most) : "";
@@ -130,7 +144,7 @@ function lead_back(why) {
 // a heartbeat has no answer until the next one. A browser waits for the other end before it tells of a close of its own, so
 // nothing waits for that.
 function connect(wait, began) {
-  const socket = new WebSocket(scheme + "://" + place + "/socket/websocket?vsn=2.0.0");
+  const socket = new WebSocket(scheme + "://" + place + "/socket/websocket?vsn=2.0.0", protocols);
   let reference = 1, beats, joined = false, answered = true, next;
   const send = (where, ref, event, payload) => {
     if (socket.readyState === 1) socket.send(JSON.stringify([where === topic ? "1" : null, ref, where, event, payload]));
@@ -146,6 +160,7 @@ function connect(wait, began) {
   }
   function lose(code) {
     end();
+    if (code === UNAUTHORIZED) return lead_back("The token has ended.");
     if (!joined && REFUSALS[code]) return lead_back("Refused: " + REFUSALS[code] + " (" + code + ").");
     const pause = joined ? 500 : wait;
     show("state").textContent = "No connection (" + code + "). Next try in " + pause / 1000 + " s.";
@@ -221,7 +236,8 @@ show("enter").onsubmit = event => {
   if (asName && room) enter(asName, room); else lead_back("A name and a room are wanted.");
 };
 show("leave").onclick = () => leave("You left.");
-if (asked.get("name")) enter(asked.get("name"), asked.get("room") || "lobby");
+const first = asked.get("name") || (token && text(subject(token)));
+if (first) enter(first, asked.get("room") || "lobby");
 </script>
 </html>
 "##;

@@ -5,6 +5,7 @@ pub mod Granting
 pub mod Held
 pub mod Judged
 pub mod Judging
+pub mod Making
 pub mod Parts
 pub mod Signing
 pub mod Unique

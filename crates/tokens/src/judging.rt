@@ -15,8 +15,8 @@ use json::Scratch;
 use hmac_keys::{Hmac, are_same};
 use std::alloc::Global;
 
-// The code of a head and claims under a key.
-fn code_of(key: &[u8], head: &[u8], claims: &[u8]) -> [u8; 32]
+/// The code of a head and claims under a key.
+pub(crate) fn code_of(key: &[u8], head: &[u8], claims: &[u8]) -> [u8; 32]
     ensures { result ≡ code_in key.now (signed_text head.now claims.now) }
 {
     let mut code = Hmac::new(key);

@@ -10,12 +10,14 @@
 //! - `specs/Judged`: what a grant came of
 //! - `specs/Signing`, `specs/Held`: at which second and under which keys, and what a grant holds
 //! - `specs/Granting`: what is granted where a token grants this
+//! - `specs/Making`: the text of a token that is made
 #![tactic(auto)]
 
 mod claims;
 mod fault;
 mod grant;
 mod judging;
+mod making;
 pub mod laws;
 mod parts;
 mod reading;
@@ -27,4 +29,5 @@ pub use claims::Claims;
 pub use fault::TokenFault;
 pub use grant::Grant;
 pub use judging::verify;
+pub use making::Wanted;
 pub use signing::Signing;

@@ -2,6 +2,7 @@
 use crate::claims::Claims;
 use crate::fault::TokenFault;
 use crate::judging::verify;
+use crate::making::{Wanted, make};
 use hmac_keys::Keys;
 use std::alloc::Global;
 use std::sync::Arc;
@@ -14,7 +15,10 @@ pub struct Signing<'a> {
 }
 
 impl<'a> Signing<'a> {
+    ghost use Rattle.std.specs.Prelude.{◌≡◌, IfOk, Ok, string_bytes};
     ghost use Rattle.tokens.specs.Answers.{Gives};
+    ghost use Rattle.tokens.specs.Claimed.{Granted};
+    ghost use Rattle.tokens.specs.Making.{IsMade, wanted_in};
     ghost use Rattle.tokens.specs.Signing.{judged_at};
     ghost use Rattle.tokens.specs.Views.{granted_by};
 
@@ -23,5 +27,17 @@ impl<'a> Signing<'a> {
         ensures { Gives granted_by result (judged_at self.entry token.now) }
     {
         verify(alloc, self.keys.as_slice(), self.second, token)
+    }
+    /// A token that grants this, signed with the first of the keys. It is judged before it is given away: a server that has this
+    /// key takes it now.
+    pub fn sign(self, alloc: Global, wanted: Wanted<'_>) -> Result<String, TokenFault>
+        ensures made { IfOk result (IsMade self.entry (wanted_in wanted)) }
+        ensures taken { IfOk result (λ token. (g : Granted) × judged_at self.entry (string_bytes token) ≡ Ok g) }
+    {
+        let Ok(token) = make(alloc, self.keys.first(), wanted) else {
+            return Err(TokenFault::OutOfMemory);
+        };
+        self.judge(alloc, token.as_bytes())?;
+        Ok(token)
     }
 }

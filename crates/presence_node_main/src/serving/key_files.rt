@@ -55,6 +55,18 @@ impl KeyFile<'_> {
         }
     }
 
+    /// The keys that it has; or why there are none, in words, where there is memory for these.
+    pub fn keys<R: Files>(
+        self,
+        rt: &R,
+        alloc: Global,
+    ) -> Result<Arc<Keys, Global>, Result<String, AllocError>> {
+        match self.read(rt, alloc) {
+            Ok(keys) => Ok(keys),
+            Err(why) => Err(self.words(alloc, why)),
+        }
+    }
+
     /// Why it gives none, in words.
     pub fn words(self, alloc: Global, why: NoKeys) -> Result<String, AllocError> {
         let (option, path) = (self.option, self.path);

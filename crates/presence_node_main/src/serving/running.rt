@@ -231,6 +231,9 @@ fn links_for<R: Net, H>(
     let mut from = Vec::new(alloc);
     from.extend_from_slice(options.link_from.as_slice())?;
     let mut tasks = tasks_for(rt, alloc, node, listener, from)?;
+    if let Some(secret) = &setting.secrets.link {
+        tasks.wants(secret.shared()?);
+    }
     dial_all(alloc, options.peers.as_slice(), &mut tasks)?;
     Ok(tasks)
 }
