@@ -8,7 +8,7 @@ pub mod Lists
 pub mod Numbers
 pub mod Takings
 pub mod Places
-pub mod Leavers
+pub mod LeavingLemmas
 pub mod Notes
 pub mod Marking
 pub mod Holding

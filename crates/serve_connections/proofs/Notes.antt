@@ -12,7 +12,7 @@ use Rattle.serve_connections.specs.Places.{AreKept, AreLeft, left, served}
 use Rattle.serve_connections.specs.Resting.{AreAtRest, FindsDue, HasRoom, holds_at, is_noted, rests, rests_at}
 use Rattle.serve_connections.proofs.Lists.{ChainedTo, PairwiseTo}
 use Rattle.serve_connections.proofs.Places.{chained_over, pairwise_over, some_token}
-use Rattle.serve_connections.proofs.Leavers.{filled}
+use Rattle.serve_connections.proofs.LeavingLemmas.{filled}
 
 -- ---- notes
 

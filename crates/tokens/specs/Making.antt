@@ -50,7 +50,7 @@ encoded bytes = encode_of url_safe_no_pad bytes
 
 -- head and claims, as they are encoded
 abbrev pub head_part : List ℕ
-head_part = encoded HEAD
+head_part = encoded HEAD.now
 
 abbrev pub claims_part : WantedTexts → List ℕ
 claims_part w = encoded (claims_text w)

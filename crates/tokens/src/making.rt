@@ -22,7 +22,7 @@ const HEAD: &str = "{\"alg\":\"HS256\",\"typ\":\"JWT\"}";
 
 // Writes the subject, if there is one.
 fn push_subject(alloc: Global, text: &mut String, subject: Option<&str>) -> Result<(), AllocError>
-    ensures { OnOk result (string_bytes text.new ≡ string_bytes text.old ++ subject_text (option_map (λ s. s.now) subject)) }
+    ensures { OnOk result (string_bytes text.new ≡ string_bytes text.old ++ subject_text (option_map (λ s. s.now) subject.entry)) }
 {
     let Some(subject) = subject else {
         return Ok(());
@@ -65,7 +65,7 @@ fn push_topics(
     topics: Option<&[String]>,
 ) -> Result<(), AllocError>
     ensures { OnOk result (string_bytes text.new
-        ≡ string_bytes text.old ++ topics_text (option_map (λ t. map string_bytes t.now) topics)) }
+        ≡ string_bytes text.old ++ topics_text (option_map (λ t. map string_bytes t.now) topics.entry)) }
 {
     let Some(topics) = topics else {
         return Ok(());
@@ -77,7 +77,7 @@ fn push_topics(
 
 // The claims.
 fn claims_text(alloc: Global, wanted: Wanted<'_>) -> Result<String, AllocError>
-    ensures { IfOk result (λ s. string_bytes s ≡ claims_text_of (wanted_in wanted)) }
+    ensures { IfOk result (λ s. string_bytes s ≡ claims_text_of (wanted_in wanted.entry)) }
 {
     let ends = wanted.ends;
     let mut text = String::from_str(alloc, "{")?;
@@ -90,7 +90,8 @@ fn claims_text(alloc: Global, wanted: Wanted<'_>) -> Result<String, AllocError>
 
 // Head and claims, as they are encoded.
 fn encoded(alloc: Global, wanted: Wanted<'_>) -> Result<(String, String), AllocError>
-    ensures { IfOk result (λ t. (string_bytes t.0, string_bytes t.1) ≡ (head_part, claims_part (wanted_in wanted))) }
+    ensures head { IfOk result (λ t. string_bytes t.0 ≡ head_part) }
+    ensures claims { IfOk result (λ t. string_bytes t.1 ≡ claims_part (wanted_in wanted.entry)) }
 {
     let claims = claims_text(alloc, wanted)?;
     let head = URL_SAFE_NO_PAD.encode(alloc, HEAD.as_bytes())?;
@@ -99,8 +100,9 @@ fn encoded(alloc: Global, wanted: Wanted<'_>) -> Result<(String, String), AllocE
 }
 
 /// A token that grants this, signed with a key.
+#[tactic(auto, unfolding(crate::specs::Making::token_text))]
 pub(crate) fn make(alloc: Global, key: &[u8], wanted: Wanted<'_>) -> Result<String, AllocError>
-    ensures { IfOk result (λ s. string_bytes s ≡ token_text key.now (wanted_in wanted)) }
+    ensures { IfOk result (λ s. string_bytes s ≡ token_text key.now (wanted_in wanted.entry)) }
 {
     let (head, claims) = encoded(alloc, wanted)?;
     let code = code_of(key, head.as_bytes(), claims.as_bytes());

@@ -31,7 +31,7 @@ impl<'a> Signing<'a> {
     /// A token that grants this, signed with the first of the keys. It is judged before it is given away: a server that has this
     /// key takes it now.
     pub fn sign(self, alloc: Global, wanted: Wanted<'_>) -> Result<String, TokenFault>
-        ensures made { IfOk result (IsMade self.entry (wanted_in wanted)) }
+        ensures made { IfOk result (IsMade self.entry (wanted_in wanted.entry)) }
         ensures taken { IfOk result (λ token. (g : Granted) × judged_at self.entry (string_bytes token) ≡ Ok g) }
     {
         let Ok(token) = make(alloc, self.keys.first(), wanted) else {

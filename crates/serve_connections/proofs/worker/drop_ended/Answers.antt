@@ -1,7 +1,7 @@
 use Rattle.std.proofs.Common.{◌≡◌, ℕ, List, sym, ap, ◌∙◌, rules}
 use Rattle.std.proofs.lemmas.Fn.{filter_same}
 use Rattle.serve_connections.specs.Places.{AreKept, AreLeft, served}
-use Rattle.serve_connections.proofs.Leavers.{filled, left_kept, left_served}
+use Rattle.serve_connections.proofs.LeavingLemmas.{filled, left_kept, left_served}
 use Rattle.serve_connections.proofs.Notes.{all_filled, filled_at_rest}
 use Rattle.serve_connections.proofs.worker.drop_ended.Goals as goal
 

@@ -3,7 +3,7 @@ use Rattle.std.specs.Prelude.{get_or}
 use Rattle.slab.specs.Slab.{get}
 use Rattle.serve_connections.specs.Resting.{holds_at, is_noted}
 use Rattle.serve_connections.specs.Working.{ended_at}
-use Rattle.serve_connections.proofs.Leavers.{left_none, left_all, left_ended, left_going, left_here}
+use Rattle.serve_connections.proofs.LeavingLemmas.{left_none, left_all, left_ended, left_going, left_here}
 use Rattle.serve_connections.proofs.Notes.{found_by, found_not, never, rest_at}
 use Rattle.serve_connections.proofs.worker.let_go.Goals.{then-has_ended_at, else-has_ended_at}
 use Rattle.serve_connections.proofs.worker.let_go.Goals as goal

@@ -1,5 +1,5 @@
 use Rattle.std.specs.Prelude.{◌≡◌, false}
-use Rattle.serve_connections.proofs.Leavers.{LeftTo}
+use Rattle.serve_connections.proofs.LeavingLemmas.{LeftTo}
 use Rattle.serve_connections.proofs.worker.let_go.Given as goal
 
 abbrev pub invariant-loop-key : goal.invariant-loop-key
