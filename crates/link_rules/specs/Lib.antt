@@ -5,4 +5,5 @@ pub mod Lives
 pub mod Rebirths
 pub mod Hearing
 pub mod Admitting
+pub mod Keying
 pub mod Known

@@ -28,6 +28,8 @@ pub enum LinkEnd {
     NotAPeer,
     /// It came from an address that no `--link-from` has.
     OtherAddress,
+    /// It shows none of this node's keys of links.
+    NoKey,
     /// A newer link of the same node came in.
     Replaced,
     /// Nobody answers there.

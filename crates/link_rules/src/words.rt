@@ -113,6 +113,7 @@ fn end_words(end: LinkEnd) -> &'static str
         LinkEnd::OtherName => "the other node has another name than --peer says",
         LinkEnd::NotAPeer => "no --peer of this node has its name",
         LinkEnd::OtherAddress => "no --link-from of this node has its address",
+        LinkEnd::NoKey => "the other node shows none of the keys of --link-keys",
         LinkEnd::Replaced => "a newer link of that node came in",
         LinkEnd::NotReached => "nobody answers there",
         LinkEnd::HostNotFound => {

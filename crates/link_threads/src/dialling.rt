@@ -1,6 +1,7 @@
 //! The threads that dial other nodes, one each.
 ghost use Rattle.std.specs.Prelude.{◌≡◌};
 
+use crate::keyed::shows_key;
 use crate::links::{Cuts, Links, Place, Wakes};
 use crate::lives::{given_up, owning};
 use crate::node::Node;
@@ -264,6 +265,8 @@ where
     let Ok(stream) = LinkStream::new(rt, links.alloc, socket, &links.stopping, LAST_LOOKS) else {
         return Err(LinkEnd::Fault(DialFault::Link(LinkFault::ReadFailed)));
     };
+    let mut stream = stream;
+    shows_key(links, &mut stream)?;
     let speaks = *form;
     *form = next_form(links.speaks, speaks);
     let life = links.life(rt);

@@ -2,6 +2,7 @@
 ghost use Rattle.std.specs.Prelude.{◌≡◌};
 
 use crate::dialling::STANDING_MILLISECONDS;
+use crate::keyed::asks_for_key;
 use crate::links::{Links, Place, Wakes};
 use crate::lives::owning;
 use crate::node::Node;
@@ -507,6 +508,9 @@ where
     W: Wakes,
     requires { node.links.now.shards ≡ node.pool.now.shards }
 {
+    if let Err(end) = asks_for_key(node.links, &mut incoming.link.stream) {
+        return end;
+    }
     for _ in node.rt.forever() {
         if let Err(end) = incoming.exchange(node) {
             return end;

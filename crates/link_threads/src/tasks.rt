@@ -7,6 +7,7 @@ ghost use Rattle.link_rules.specs.declared.words.TheConstants.{MAX_LINKS};
 use crate::book::Book;
 use crate::dialling::{Dialler, dial_one};
 use crate::incoming::{LISTENER, LinkDoor, Waiting};
+use crate::keyed::LinkKeys;
 use crate::links::{Links, Wakes};
 use crate::reading::{Readers, read_long};
 use crate::runtime::LinkRuntime;
@@ -108,7 +109,7 @@ fn dialler_of(
 }
 
 impl LinkTasks {
-    ghost use Rattle.std.specs.Prelude.{◌≡◌};
+    ghost use Rattle.std.specs.Prelude.{◌≡◌, Some};
 
     /// What is shared, and what each thread does.
     pub fn into_parts(self) -> (Links, Vec<LinkTask>)
@@ -117,6 +118,13 @@ impl LinkTasks {
     {
         let LinkTasks { links, tasks } = self;
         (links, tasks)
+    }
+
+    /// Both ends of each link have to show that they have one of these keys in common.
+    pub fn wants(&mut self, keys: LinkKeys)
+        ensures { self.new ≡ record self.old { links = record self.old.links { keys = Some keys } } }
+    {
+        self.links.keys = Some(keys);
     }
 
     /// Dials the node of this name too, at this host and port. Its long lines are read by a thread of their own.
@@ -224,6 +232,7 @@ pub fn tasks_for<R: Net>(
         stopping: Stopping::new(),
         has_met: AtomicBool::new(false),
         tallies: Tallies::new(),
+        keys: None,
     };
     Ok(LinkTasks { links, tasks })
 }

@@ -12,6 +12,7 @@ mod error_stream;
 mod running;
 mod serving;
 mod settling;
+mod token;
 mod words;
 
 pub use ending::{

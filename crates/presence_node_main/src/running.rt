@@ -1,11 +1,12 @@
 //! The program over the standard streams.
 use crate::end::serve_status_of;
 use crate::ending::{
-    Ending, Stream, fold_ending, help_ending, serve_ending, silent, stdio_ending, stopped_ending,
-    usage_ending,
+    Ending, Stream, fold_ending, help_ending, keys_ending, serve_ending, silent, stdio_ending,
+    stopped_ending, usage_ending,
 };
 use crate::error_stream::ErrorStream;
-use crate::serving::serve;
+use crate::serving::{secrets_of, serve};
+use crate::token::make_token;
 use crate::words::{texts_of, words_of};
 use hook_registry::{NoHooks, PresenceHooks};
 use presence_options::{FoldOptions, Options, ServeOptions, StdioOptions, UsageFault, options_of};
@@ -92,7 +93,12 @@ where
     H: PresenceHooks + Sync,
 {
     let alloc = rt.alloc();
-    let end = serve(rt, alloc, hooks, options);
+    let secrets = match secrets_of(rt, alloc, options) {
+        Ok(secrets) => secrets,
+        Err(Ok(words)) => return Ok(keys_ending(alloc, words.as_str())?),
+        Err(Err(_)) => return Ok(silent(2)),
+    };
+    let end = serve(rt, alloc, hooks, options, &secrets);
     match serve_ending(alloc, end, options) {
         Ok(ending) => Ok(ending),
         Err(_) => Ok(silent(serve_status_of(end))),
@@ -127,6 +133,7 @@ where
         }
         Ok(Options::Fold(options)) => fold_stdin(rt, options),
         Ok(Options::Serve(options)) => serve_clients(rt, hooks, &options),
+        Ok(Options::Token(options)) => make_token(rt, rt.alloc(), &options),
         Err(fault) => Ok(usage_ending(fault)),
     }
 }

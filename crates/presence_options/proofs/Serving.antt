@@ -1,8 +1,8 @@
 -- Why a server's options are refused, from what was looked at before.
 use Rattle.std.proofs.Common.{◌≡◌, ◌⊎◌, inl, inr, ℕ, List, IsTrue, codes, false, subst, sym}
 use Rattle.clap.specs.Words.{Row}
-use Rattle.presence_options.specs.Given.{AllArePeers, AreAllNames, AreFewOrigins, AreFewPatterns, AreHandshakes, AreLinkFrom, AreOtherPeers, AreProxies, IsFrugal, IsTold, IsUnnamed, IsUntold, IsWasteful, ArePeers, ArePorts, AreShards, AreWorkers, ChoosesNone, IsEdgeWrong, IsFor, IsLinkVersion, IsNamed, IsNode, IsPerAddress, IsServedWrong, name_given, origins_given, patterns_given, peers_given}
-use Rattle.presence_options.specs.declared.fault.UsageCause.TheVariants.{Words, Name, Incarnation, Route, Port, LinkPort, Shards, Workers, LinkVersion, Peer, Origin, PerAddress, HandshakesPerSecond, PeerName, Proxy, LinkFrom, MemoryLimit, TopicRows, TopicBytes, Log, LogFormat, MetricsPort, Event}
+use Rattle.presence_options.specs.Given.{AllArePeers, AreAllNames, AreFewOrigins, AreFewPatterns, AreHandshakes, AreLinkFrom, AreOtherPeers, AreProxies, IsFrugal, IsTold, IsUnnamed, IsUntold, IsWasteful, ArePeers, ArePorts, AreShards, AreWorkers, ChoosesNone, IsEdgeWrong, IsFor, IsLinkVersion, IsNamed, IsNode, IsPerAddress, IsServedWrong, IsTokenWrong, name_given, origins_given, patterns_given, peers_given}
+use Rattle.presence_options.specs.declared.fault.UsageCause.TheVariants.{Words, Name, Incarnation, Route, Port, LinkPort, Shards, Workers, LinkVersion, Peer, Origin, PerAddress, HandshakesPerSecond, PeerName, Proxy, LinkFrom, MemoryLimit, TopicRows, TopicBytes, Log, LogFormat, MetricsPort, Event, KeyFile, Lifetime}
 use Rattle.presence_options.specs.Limits.{AreRoutes, is_peer_name, numbered}
 use Rattle.presence_options.specs.declared.options.PeerOption.{PeerOption}
 use Rattle.presence_options.proofs.Patterns.{few_patterns}
@@ -128,6 +128,8 @@ untold_edge rows (Usage Log text) proxies links frugal wrong = (proxies, links, 
 untold_edge rows (Usage LogFormat text) proxies links frugal wrong = (proxies, links, inr (inl (frugal, wrong)))
 untold_edge rows (Usage MetricsPort text) proxies links frugal wrong = (proxies, links, inr (inl (frugal, wrong)))
 untold_edge rows (Usage Event text) proxies links frugal wrong = (proxies, links, inr (inl (frugal, wrong)))
+untold_edge rows (Usage KeyFile text) proxies links frugal wrong = (proxies, links, inr (inl (frugal, wrong)))
+untold_edge rows (Usage Lifetime text) proxies links frugal wrong = (proxies, links, inr (inl (frugal, wrong)))
 untold_edge rows Memory proxies links frugal wrong = tt
 
 pub wasteful_edge : (rows : List Row) (fault : UsageFault) → AreProxies rows → AreLinkFrom rows → IsWasteful rows fault → IsEdgeWrong rows fault
@@ -154,6 +156,8 @@ wasteful_edge rows (Usage Log text) proxies links wrong = (proxies, links, inl w
 wasteful_edge rows (Usage LogFormat text) proxies links wrong = (proxies, links, inl wrong)
 wasteful_edge rows (Usage MetricsPort text) proxies links wrong = (proxies, links, inl wrong)
 wasteful_edge rows (Usage Event text) proxies links wrong = (proxies, links, inl wrong)
+wasteful_edge rows (Usage KeyFile text) proxies links wrong = (proxies, links, inl wrong)
+wasteful_edge rows (Usage Lifetime text) proxies links wrong = (proxies, links, inl wrong)
 wasteful_edge rows Memory proxies links wrong = tt
 
 -- and so are names that are none
@@ -182,6 +186,8 @@ unnamed rows (Usage Log text) proxies links frugal told wrong = absurd wrong
 unnamed rows (Usage LogFormat text) proxies links frugal told wrong = absurd wrong
 unnamed rows (Usage MetricsPort text) proxies links frugal told wrong = absurd wrong
 unnamed rows (Usage Event text) proxies links frugal told wrong = (proxies, links, inr (inr (frugal, told, wrong)))
+unnamed rows (Usage KeyFile text) proxies links frugal told wrong = absurd wrong
+unnamed rows (Usage Lifetime text) proxies links frugal told wrong = absurd wrong
 unnamed rows Memory proxies links frugal told wrong = tt
 
 unnamed_by : (rows : List Row) (fault : UsageFault) → IsFor Event (AreAllNames rows → ⊥) fault → IsUnnamed rows fault
@@ -197,26 +203,56 @@ unnamed_edge rows fault proxies links frugal told wrong = unnamed rows fault pro
 pub serve_chosen : (name : List ℕ) (rows : List Row) (fault : UsageFault) → name ≡ codes "serve" → IsServedWrong rows fault
     → ChoosesNone name rows fault
 serve_chosen name rows (Usage Words text) is wrong = absurd wrong
-serve_chosen name rows (Usage Name text) is wrong = inr (is, wrong)
-serve_chosen name rows (Usage Incarnation text) is wrong = inr (is, wrong)
-serve_chosen name rows (Usage Route text) is wrong = inr (is, wrong)
-serve_chosen name rows (Usage Port text) is wrong = inr (is, wrong)
-serve_chosen name rows (Usage LinkPort text) is wrong = inr (is, wrong)
-serve_chosen name rows (Usage Shards text) is wrong = inr (is, wrong)
-serve_chosen name rows (Usage Workers text) is wrong = inr (is, wrong)
-serve_chosen name rows (Usage LinkVersion text) is wrong = inr (is, wrong)
-serve_chosen name rows (Usage Peer text) is wrong = inr (is, wrong)
-serve_chosen name rows (Usage Origin text) is wrong = inr (is, wrong)
-serve_chosen name rows (Usage PerAddress text) is wrong = inr (is, wrong)
-serve_chosen name rows (Usage HandshakesPerSecond text) is wrong = inr (is, wrong)
-serve_chosen name rows (Usage PeerName text) is wrong = inr (is, wrong)
-serve_chosen name rows (Usage Proxy text) is wrong = inr (is, wrong)
-serve_chosen name rows (Usage LinkFrom text) is wrong = inr (is, wrong)
-serve_chosen name rows (Usage MemoryLimit text) is wrong = inr (is, wrong)
-serve_chosen name rows (Usage TopicRows text) is wrong = inr (is, wrong)
-serve_chosen name rows (Usage TopicBytes text) is wrong = inr (is, wrong)
-serve_chosen name rows (Usage Log text) is wrong = inr (is, wrong)
-serve_chosen name rows (Usage LogFormat text) is wrong = inr (is, wrong)
-serve_chosen name rows (Usage MetricsPort text) is wrong = inr (is, wrong)
-serve_chosen name rows (Usage Event text) is wrong = inr (is, wrong)
+serve_chosen name rows (Usage Name text) is wrong = inr (inl (is, wrong))
+serve_chosen name rows (Usage Incarnation text) is wrong = inr (inl (is, wrong))
+serve_chosen name rows (Usage Route text) is wrong = inr (inl (is, wrong))
+serve_chosen name rows (Usage Port text) is wrong = inr (inl (is, wrong))
+serve_chosen name rows (Usage LinkPort text) is wrong = inr (inl (is, wrong))
+serve_chosen name rows (Usage Shards text) is wrong = inr (inl (is, wrong))
+serve_chosen name rows (Usage Workers text) is wrong = inr (inl (is, wrong))
+serve_chosen name rows (Usage LinkVersion text) is wrong = inr (inl (is, wrong))
+serve_chosen name rows (Usage Peer text) is wrong = inr (inl (is, wrong))
+serve_chosen name rows (Usage Origin text) is wrong = inr (inl (is, wrong))
+serve_chosen name rows (Usage PerAddress text) is wrong = inr (inl (is, wrong))
+serve_chosen name rows (Usage HandshakesPerSecond text) is wrong = inr (inl (is, wrong))
+serve_chosen name rows (Usage PeerName text) is wrong = inr (inl (is, wrong))
+serve_chosen name rows (Usage Proxy text) is wrong = inr (inl (is, wrong))
+serve_chosen name rows (Usage LinkFrom text) is wrong = inr (inl (is, wrong))
+serve_chosen name rows (Usage MemoryLimit text) is wrong = inr (inl (is, wrong))
+serve_chosen name rows (Usage TopicRows text) is wrong = inr (inl (is, wrong))
+serve_chosen name rows (Usage TopicBytes text) is wrong = inr (inl (is, wrong))
+serve_chosen name rows (Usage Log text) is wrong = inr (inl (is, wrong))
+serve_chosen name rows (Usage LogFormat text) is wrong = inr (inl (is, wrong))
+serve_chosen name rows (Usage MetricsPort text) is wrong = inr (inl (is, wrong))
+serve_chosen name rows (Usage Event text) is wrong = inr (inl (is, wrong))
+serve_chosen name rows (Usage KeyFile text) is wrong = inr (inl (is, wrong))
+serve_chosen name rows (Usage Lifetime text) is wrong = inr (inl (is, wrong))
 serve_chosen name rows Memory is wrong = tt
+
+pub token_chosen : (name : List ℕ) (rows : List Row) (fault : UsageFault) → name ≡ codes "token" → IsTokenWrong rows fault
+    → ChoosesNone name rows fault
+token_chosen name rows (Usage KeyFile text) is wrong = inr (inr (is, wrong))
+token_chosen name rows (Usage Route text) is wrong = inr (inr (is, wrong))
+token_chosen name rows (Usage Lifetime text) is wrong = inr (inr (is, wrong))
+token_chosen name rows (Usage Words text) is wrong = absurd wrong
+token_chosen name rows (Usage Name text) is wrong = absurd wrong
+token_chosen name rows (Usage Incarnation text) is wrong = absurd wrong
+token_chosen name rows (Usage Port text) is wrong = absurd wrong
+token_chosen name rows (Usage LinkPort text) is wrong = absurd wrong
+token_chosen name rows (Usage Shards text) is wrong = absurd wrong
+token_chosen name rows (Usage Workers text) is wrong = absurd wrong
+token_chosen name rows (Usage LinkVersion text) is wrong = absurd wrong
+token_chosen name rows (Usage Peer text) is wrong = absurd wrong
+token_chosen name rows (Usage Origin text) is wrong = absurd wrong
+token_chosen name rows (Usage PerAddress text) is wrong = absurd wrong
+token_chosen name rows (Usage HandshakesPerSecond text) is wrong = absurd wrong
+token_chosen name rows (Usage PeerName text) is wrong = absurd wrong
+token_chosen name rows (Usage Proxy text) is wrong = absurd wrong
+token_chosen name rows (Usage LinkFrom text) is wrong = absurd wrong
+token_chosen name rows (Usage MemoryLimit text) is wrong = absurd wrong
+token_chosen name rows (Usage TopicRows text) is wrong = absurd wrong
+token_chosen name rows (Usage TopicBytes text) is wrong = absurd wrong
+token_chosen name rows (Usage Log text) is wrong = absurd wrong
+token_chosen name rows (Usage LogFormat text) is wrong = absurd wrong
+token_chosen name rows (Usage MetricsPort text) is wrong = absurd wrong
+token_chosen name rows Memory is wrong = tt

@@ -15,7 +15,7 @@ use Rattle.presence_options.specs.declared.options.ServeOptions.{ServeOptions}
 use Rattle.presence_base.specs.declared.names.TheConstants.{MAX_SHARDS}
 use Rattle.presence_options.specs.declared.options.TheConstants.{MAX_EVENT_BYTES, MAX_HANDSHAKES_PER_SECOND, MAX_LINK_FROM, MAX_LINK_VERSION, MAX_MEMORY, MAX_ORIGINS, MAX_PER_ADDRESS, MAX_PROXIES, MAX_TOPIC_BYTES, MAX_TOPIC_ROWS, MAX_WORKERS, MIN_MEMORY, MIN_TOPIC_BYTES}
 use Rattle.presence_options.specs.declared.options.Options.{Options}
-use Rattle.presence_options.specs.declared.options.Options.TheVariants.{Help, Version, Bare, Stdio, Fold, Serve}
+use Rattle.presence_options.specs.declared.options.Options.TheVariants.{Help, Version, Bare, Stdio, Fold, Serve, Token}
 
 -- 1 to 64 bytes (MAX_EVENT_BYTES)
 abbrev pub is_event_name : List ℕ → Bool
@@ -99,3 +99,4 @@ AreWithin (Bare text) = Unit {0}
 AreWithin (Stdio o) = IsWithin o
 AreWithin (Fold o) = Unit {0}
 AreWithin (Serve o) = IsServedWithin o
+AreWithin (Token o) = Unit {0}

@@ -4,11 +4,12 @@ ghost use Rattle.clap.specs.Words.{rule_of};
 ghost use Rattle.presence_options.specs.CommandLine.{flag_rule, option_rule};
 
 use crate::help::{
-    ANSWERED_HELP, EVENT_HELP, EXPLAIN_HELP, FRACTIONS_HELP, HANDSHAKES_HELP, LINK_FROM_HELP,
-    LINK_LISTEN_HELP, LINK_PORT_HELP, LINK_VERSION_HELP, LISTEN_HELP, LOG_FORMAT_HELP, LOG_HELP,
-    MATCH_JOINS_HELP, MEMORY_HELP, METRICS_PORT_HELP, NAME_HELP, NOTICES_HELP, ORIGIN_HELP,
-    PEER_HELP, PER_ADDRESS_HELP, PHOENIX_HELP, PORT_HELP, PROXY_HELP, ROUTE_HELP, SHARDS_HELP,
-    TOPIC_BYTES_HELP, TOPIC_ROWS_HELP, TO_OTHERS_HELP, WORKERS_HELP,
+    ANSWERED_HELP, EVENT_HELP, EXPLAIN_HELP, FOR_HELP, FRACTIONS_HELP, HANDSHAKES_HELP, KEY_HELP,
+    LINK_FROM_HELP, LINK_KEYS_HELP, LINK_LISTEN_HELP, LINK_PORT_HELP, LINK_VERSION_HELP,
+    LISTEN_HELP, LOG_FORMAT_HELP, LOG_HELP, MATCH_JOINS_HELP, MEMORY_HELP, METRICS_PORT_HELP,
+    NAME_HELP, NOTICES_HELP, ORIGIN_HELP, PEER_HELP, PER_ADDRESS_HELP, PHOENIX_HELP, PORT_HELP,
+    PROXY_HELP, ROUTE_HELP, SHARDS_HELP, SUB_HELP, TOKEN_KEYS_HELP, TOPICS_HELP, TOPIC_BYTES_HELP,
+    TOPIC_ROWS_HELP, TO_OTHERS_HELP, WORKERS_HELP,
 };
 use clap::{Arg, ArgAction};
 use std::alloc::Global;
@@ -366,4 +367,76 @@ pub(crate) fn metrics_port_option<'a>(alloc: Global) -> Arg<'a>
         .value_name("PORT")
         .action(ArgAction::Set)
         .help(METRICS_PORT_HELP)
+}
+
+/// `--token-keys FILE`.
+pub(crate) fn token_keys_option<'a>(alloc: Global) -> Arg<'a>
+    ensures rule { rule_of result ≡ option_rule (codes "token-keys") ArgAction.Set }
+    ensures local { result.global ≡ false }
+{
+    Arg::new(alloc, "token-keys")
+        .long("token-keys")
+        .value_name("FILE")
+        .action(ArgAction::Set)
+        .help(TOKEN_KEYS_HELP)
+}
+
+/// `--link-keys FILE`.
+pub(crate) fn link_keys_option<'a>(alloc: Global) -> Arg<'a>
+    ensures rule { rule_of result ≡ option_rule (codes "link-keys") ArgAction.Set }
+    ensures local { result.global ≡ false }
+{
+    Arg::new(alloc, "link-keys")
+        .long("link-keys")
+        .value_name("FILE")
+        .action(ArgAction::Set)
+        .help(LINK_KEYS_HELP)
+}
+
+/// `--key FILE`.
+pub(crate) fn key_option<'a>(alloc: Global) -> Arg<'a>
+    ensures rule { rule_of result ≡ option_rule (codes "key") ArgAction.Set }
+    ensures local { result.global ≡ false }
+{
+    Arg::new(alloc, "key")
+        .long("key")
+        .value_name("FILE")
+        .action(ArgAction::Set)
+        .help(KEY_HELP)
+}
+
+/// `--sub NAME`.
+pub(crate) fn subject_option<'a>(alloc: Global) -> Arg<'a>
+    ensures rule { rule_of result ≡ option_rule (codes "sub") ArgAction.Set }
+    ensures local { result.global ≡ false }
+{
+    Arg::new(alloc, "sub")
+        .long("sub")
+        .value_name("NAME")
+        .action(ArgAction::Set)
+        .help(SUB_HELP)
+}
+
+/// `--topics PATTERN`.
+pub(crate) fn topics_option<'a>(alloc: Global) -> Arg<'a>
+    ensures rule { rule_of result ≡ option_rule (codes "topics") ArgAction.Append }
+    ensures local { result.global ≡ false }
+{
+    Arg::new(alloc, "topics")
+        .long("topics")
+        .value_name("PATTERN")
+        .action(ArgAction::Append)
+        .help(TOPICS_HELP)
+}
+
+/// `--for TIME`.
+pub(crate) fn time_option<'a>(alloc: Global) -> Arg<'a>
+    ensures rule { rule_of result ≡ option_rule (codes "for") ArgAction.Set }
+    ensures local { result.global ≡ false }
+{
+    Arg::new(alloc, "for")
+        .long("for")
+        .value_name("TIME")
+        .action(ArgAction::Set)
+        .help(FOR_HELP)
 }

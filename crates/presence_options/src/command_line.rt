@@ -2,30 +2,32 @@
 ghost use Rattle.std.specs.Prelude.{◌≡◌, IfOk, IfErr, OnOk, codes, map, option_map};
 ghost use Rattle.std.specs.Option.{ForSome};
 ghost use Rattle.clap.specs.Words.{app_of, found_of, kind_of, rows_of, subcommand_rows_of};
-ghost use Rattle.presence_options.specs.CommandLine.{stdio_app, fold_app, linked_app, serve_app, served_app, watched_app, program};
+ghost use Rattle.presence_options.specs.CommandLine.{stdio_app, fold_app, linked_app, serve_app, served_app, token_app, watched_app, program};
 ghost use Rattle.presence_options.specs.Given.{AreAllNames, AreBudgetsGiven, AreClientsGiven, AreNames, AreReportsGiven, AskFor, Chooses, ChoosesNone, HasCause, IsEdge, IsEdgeWrong, IsFor, IsFrugal, IsGiven, IsHelpFor, IsNoHelp, IsServed, IsServedWrong, IsTold, IsUntold, IsWasteful, IsWrong, Refused, events_given, names_given};
 ghost use Rattle.presence_options.specs.Limits.{AreBudgets, AreWithin, IsEdgeWithin, IsFrom1To, IsServedWithin, IsWithin};
 
 use crate::addresses::{AddressRule, listen_of};
 use crate::arguments::{
     answered_option, event_option, explain_flag, fractions_flag, handshakes_option,
-    incarnation_option, link_from_option, link_listen_option, link_port_option,
-    link_version_option, listen_option, log_format_option, log_option, match_joins_flag,
-    memory_option, metrics_port_option, name_option, notices_flag, origin_option, peer_option,
-    per_address_option, phoenix_flag, port_option, proxy_option, route_option, shards_option,
-    to_others_option, topic_bytes_option, topic_rows_option, workers_option,
+    incarnation_option, key_option, link_from_option, link_keys_option, link_listen_option,
+    link_port_option, link_version_option, listen_option, log_format_option, log_option,
+    match_joins_flag, memory_option, metrics_port_option, name_option, notices_flag,
+    origin_option, peer_option, per_address_option, phoenix_flag, port_option, proxy_option,
+    route_option, shards_option, subject_option, time_option, to_others_option,
+    token_keys_option, topic_bytes_option, topic_rows_option, topics_option, workers_option,
 };
 use crate::event_names::with_all;
 use crate::fault::{UsageCause, UsageFault};
 use crate::found::{
     given_addresses, given_handshakes, given_life, given_link_port, given_metrics_port,
     given_names, given_number, given_origins, given_peers, given_per_address, given_routes,
+    given_text,
     is_flagged, text_given,
 };
 use crate::help::{
     ALL_OPTIONS, FOLD_REFUSALS, FOLD_TAKES, FOLD_USAGE, INCARNATION_HELP, SERVE_ENDS, SERVE_TAKES,
-    SERVE_USAGE, SERVED_INCARNATION_HELP, STDIO_REFUSALS, STDIO_TAKES, STDIO_USAGE, TO_TRY, USAGES,
-    VERSION,
+    SERVE_USAGE, SERVED_INCARNATION_HELP, STDIO_REFUSALS, STDIO_TAKES, STDIO_USAGE, TO_TRY,
+    TOKEN_TAKES, TOKEN_USAGE, USAGES, VERSION,
 };
 use crate::options::{
     Budgets, ClientOptions, FoldOptions, MAX_LINK_FROM, MAX_MEMORY, MAX_PROXIES, MAX_TOPIC_BYTES,
@@ -34,6 +36,7 @@ use crate::options::{
 };
 use crate::peer_names::names_checked;
 use crate::reports::{format_of, logged_of};
+use crate::token::token_options;
 use crate::values::{
     NumberRule, incarnation_of, link_version_of, name_of, port_of, shards_of, usage_of, workers_of,
 };
@@ -117,6 +120,19 @@ fn watched_command<'a>(alloc: Global) -> Result<Command<'a>, AllocError>
         .arg(metrics_port_option(alloc))
 }
 
+// The command `token` with its options.
+fn token_command<'a>(alloc: Global) -> Result<Command<'a>, AllocError>
+    ensures { IfOk result (λ c. app_of c ≡ token_app) }
+{
+    Command::new(alloc, "token")
+        .about("Prints a token by which a client signs in, to try it")
+        .override_usage(TOKEN_USAGE)
+        .arg(key_option(alloc))?
+        .arg(subject_option(alloc))?
+        .arg(topics_option(alloc))?
+        .arg(time_option(alloc))
+}
+
 // The command `serve` with all of its options.
 fn serve_command<'a>(alloc: Global) -> Result<Command<'a>, AllocError>
     ensures { IfOk result (λ c. app_of c ≡ serve_app) }
@@ -127,7 +143,9 @@ fn serve_command<'a>(alloc: Global) -> Result<Command<'a>, AllocError>
         .arg(match_joins_flag(alloc))?
         .arg(event_option(alloc))?
         .arg(answered_option(alloc))?
-        .arg(to_others_option(alloc))
+        .arg(to_others_option(alloc))?
+        .arg(token_keys_option(alloc))?
+        .arg(link_keys_option(alloc))
 }
 
 // The whole command line.
@@ -137,6 +155,7 @@ fn command_of<'a>(alloc: Global) -> Result<Command<'a>, AllocError>
     let stdio = stdio_command(alloc)?;
     let fold = fold_command(alloc)?;
     let serve = serve_command(alloc)?;
+    let token = token_command(alloc)?;
     Command::new(alloc, "presence_node")
         .about("A server of Phoenix Channels with Presence")
         .version(VERSION)
@@ -145,7 +164,8 @@ fn command_of<'a>(alloc: Global) -> Result<Command<'a>, AllocError>
         .subcommand_required(true)
         .subcommand(stdio)?
         .subcommand(fold)?
-        .subcommand(serve)
+        .subcommand(serve)?
+        .subcommand(token)
 }
 
 // What the parser says in place of matches, without the line feeds behind it.
@@ -160,7 +180,8 @@ fn taken_by(alloc: Global, words: &[&str]) -> Result<String, AllocError> {
         Some("stdio") => String::from_str(alloc, STDIO_TAKES),
         Some("fold") => String::from_str(alloc, FOLD_TAKES),
         Some("serve") => String::from_str(alloc, SERVE_TAKES),
-        _ => format!(in alloc; "{STDIO_TAKES}\n{FOLD_TAKES}\n{SERVE_TAKES}"),
+        Some("token") => String::from_str(alloc, TOKEN_TAKES),
+        _ => format!(in alloc; "{STDIO_TAKES}\n{FOLD_TAKES}\n{SERVE_TAKES}\n{TOKEN_TAKES}"),
     }
 }
 
@@ -254,7 +275,7 @@ fn stdio_options(alloc: Global, matches: &ArgMatches<'_>) -> Result<StdioOptions
 }
 
 // What stands beside the node itself: proxies, the addresses of links, what everybody together may take, what an operator
-// is told, and what clients may do.
+// is told, what clients may do, and the files of keys.
 #[derive(Drop)]
 struct Edge {
     proxies: Vec<IpAddr>,
@@ -262,6 +283,8 @@ struct Edge {
     budgets: Budgets,
     reports: Reports,
     clients: ClientOptions,
+    token_keys: Option<String>,
+    link_keys: Option<String>,
 }
 
 // The rules of the options that are numbers or addresses.
@@ -380,12 +403,16 @@ fn edge_of(alloc: Global, matches: &ArgMatches<'_>) -> Result<Edge, UsageFault>
     let budgets = budgets_of(alloc, matches)?;
     let reports = reports_of(alloc, matches)?;
     let clients = clients_of(alloc, matches)?;
+    let token_keys = given_text(alloc, matches, "token-keys")?;
+    let link_keys = given_text(alloc, matches, "link-keys")?;
     Ok(Edge {
         proxies,
         link_from,
         budgets,
         reports,
         clients,
+        token_keys,
+        link_keys,
     })
 }
 
@@ -414,6 +441,8 @@ fn serve_options(alloc: Global, matches: &ArgMatches<'_>) -> Result<ServeOptions
         budgets,
         reports,
         clients,
+        token_keys,
+        link_keys,
     } = edge_of(alloc, matches)?;
     Ok(ServeOptions {
         name,
@@ -435,6 +464,8 @@ fn serve_options(alloc: Global, matches: &ArgMatches<'_>) -> Result<ServeOptions
         budgets,
         reports,
         clients,
+        token_keys,
+        link_keys,
     })
 }
 
@@ -453,7 +484,7 @@ fn no_command(alloc: Global) -> UsageFault
 {
     let text = String::from_str(
         alloc,
-        "presence_node: a command is wanted: stdio, fold or serve",
+        "presence_node: a command is wanted: stdio, fold, serve or token",
     );
     usage_of(UsageCause::Words, text)
 }
@@ -479,6 +510,12 @@ fn chosen(alloc: Global, name: &str, matches: &ArgMatches<'_>) -> Result<Options
     if name == "serve" {
         return match serve_options(alloc, matches) {
             Ok(options) => Ok(Options::Serve(options)),
+            Err(fault) => Err(fault),
+        };
+    }
+    if name == "token" {
+        return match token_options(alloc, matches) {
+            Ok(options) => Ok(Options::Token(options)),
             Err(fault) => Err(fault),
         };
     }

@@ -256,3 +256,23 @@ pub(crate) fn given_addresses(
         None => addresses_of(alloc, &[], rule),
     }
 }
+
+/// The text that an option is given, if it is given one.
+#[tactic(auto, using(crate::proofs::Rows::first_read))]
+pub(crate) fn given_text(
+    alloc: Global,
+    matches: &ArgMatches<'_>,
+    option: &str,
+) -> Result<Option<String>, UsageFault>
+    ensures text { IfOk result
+        (λ text. option_map string_bytes text ≡ first_of option.now (rows_of (found_of matches.now))) }
+    ensures memory { IfErr result (λ fault. fault ≡ UsageFault.Memory) }
+{
+    let Some(text) = matches.get_str(option) else {
+        return Ok(None);
+    };
+    match String::from_str(alloc, text) {
+        Ok(text) => Ok(Some(text)),
+        Err(_) => Err(UsageFault::Memory),
+    }
+}

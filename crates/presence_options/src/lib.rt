@@ -18,6 +18,7 @@ mod options;
 mod origin;
 mod peer_names;
 mod reports;
+mod token;
 mod values;
 
 pub use command_line::options_of;
@@ -25,8 +26,8 @@ pub use fault::{UsageCause, UsageFault};
 pub use help::{ALL_OPTIONS, FOLD_REFUSALS, SERVE_ENDS, STDIO_REFUSALS, TO_TRY, VERSION};
 pub use options::{
     Budgets, ClientOptions, FoldOptions, LINK_PORT, LineFormat, Logged, MAX_EVENT_BYTES,
-    MAX_EVENT_NAMES, MAX_HANDSHAKES_PER_SECOND, MAX_LINK_FROM, MAX_LINK_VERSION, MAX_MEMORY,
-    MAX_ORIGINS, MAX_PER_ADDRESS, MAX_PROXIES, MAX_TOPIC_BYTES, MAX_TOPIC_ROWS, MAX_WORKERS,
-    MIN_MEMORY, MIN_TOPIC_BYTES, Options, PeerOption, Reports, ServeOptions, StdioOptions,
-    TOPIC_BYTES, TOPIC_ROWS,
+    MAX_EVENT_NAMES, MAX_HANDSHAKES_PER_SECOND, MAX_LASTS, MAX_LINK_FROM, MAX_LINK_VERSION,
+    MAX_MEMORY, MAX_ORIGINS, MAX_PER_ADDRESS, MAX_PROXIES, MAX_TOPIC_BYTES, MAX_TOPIC_ROWS,
+    MAX_WORKERS, MIN_MEMORY, MIN_TOPIC_BYTES, Options, PeerOption, Reports, ServeOptions,
+    StdioOptions, TOPIC_BYTES, TOPIC_ROWS, TokenOptions,
 };

@@ -154,7 +154,8 @@ pub struct ClientOptions {
 /// are spoken, the nodes that are linked to, the addresses of both ports, and the origins whose pages may connect, or none
 /// where those of any may. Without an incarnation the node takes that of the clock. How many clients one address may have
 /// at once, and how many handshakes a second, are left to the server where they are none. Links come from any address where
-/// `link_from` is none. What `proxies` tell of their clients' addresses is believed.
+/// `link_from` is none. What `proxies` tell of their clients' addresses is believed. Clients show tokens that are signed under
+/// a key of the file `token_keys`, and nodes that they have one of `link_keys`, or nothing where there is no such file.
 #[derive(Debug, Drop)]
 pub struct ServeOptions {
     pub name: NodeName,
@@ -176,6 +177,8 @@ pub struct ServeOptions {
     pub budgets: Budgets,
     pub reports: Reports,
     pub clients: ClientOptions,
+    pub token_keys: Option<String>,
+    pub link_keys: Option<String>,
     ghost is_count: { ForSome incarnation IsCount },
     ghost few_origins: { vec_len origins ≤ MAX_ORIGINS },
     ghost few_proxies: { vec_len proxies ≤ MAX_PROXIES },
@@ -183,6 +186,19 @@ pub struct ServeOptions {
     ghost some_shards: { (0 < shards) × (shards ≤ MAX_SHARDS) },
     ghost some_workers: { (0 < workers) × (workers ≤ MAX_WORKERS) },
     ghost some_version: { (0 < link_version) × (link_version ≤ MAX_LINK_VERSION) },
+}
+
+/// The longest time that a token is written for, in seconds: ten years of 365 days.
+pub const MAX_LASTS: u64 = 315_360_000;
+
+/// What `token` writes: a token under the first key of the file `key`, for this subject and these topics, if they are named,
+/// that lasts for so many seconds.
+#[derive(Debug, Drop)]
+pub struct TokenOptions {
+    pub key: String,
+    pub subject: Option<String>,
+    pub topics: Option<Vec<String>>,
+    pub lasts: u64,
 }
 
 /// What a command line asks for.
@@ -197,4 +213,5 @@ pub enum Options {
     Stdio(StdioOptions),
     Fold(FoldOptions),
     Serve(ServeOptions),
+    Token(TokenOptions),
 }

@@ -364,8 +364,8 @@ pub(crate) fn peers_of(alloc: Global, texts: &[&str]) -> Result<Vec<PeerOption>,
     Ok(peers)
 }
 
-// Copies of these texts.
-fn copies_of(alloc: Global, texts: &[&str]) -> Result<Vec<String>, AllocError>
+/// Copies of these texts.
+pub(crate) fn copies_of(alloc: Global, texts: &[&str]) -> Result<Vec<String>, AllocError>
     ensures texts { IfOk result (λ copies. map string_bytes copies.items ≡ map (λ t. t.now) texts.now) }
     ensures len { IfOk result (λ copies. vec_len copies ≡ length texts.now) }
 {

@@ -24,6 +24,9 @@ use Rattle.presence_server.specs.contracts.bench.Bench as Bench
 use Rattle.presence_server.specs.contracts.draining.Drain as Drain
 use Rattle.presence_server.specs.contracts.ends.Ends as Ends
 use Rattle.presence_server.specs.contracts.growth.Growth as Growth
+use Rattle.presence_server.specs.contracts.key_ring.KeyRing as KeyRing
+use Rattle.presence_server.specs.contracts.key_ring.OwnKeys as OwnKeys
+use Rattle.hmac_keys.proofs.Crossing.{key_send, key_sync}
 use Rattle.presence_server.specs.contracts.received.Received as Received
 use Rattle.presence_server.specs.contracts.place.Workplace as Workplace
 use Rattle.presence_server.specs.contracts.server.WorkerMailbox as WorkerMailbox
@@ -49,7 +52,13 @@ budgets_sync = search (maps.crosses, heap.crosses, sendable) depth 60 fits 20000
 pub memory_sync : IsSync (MemoryMark.the_field).row
 memory_sync = search (maps.crosses, heap.crosses, sendable) depth 60 fits 20000
 
+pub keys_sync : IsSync (KeyRing.the_field).row
+keys_sync = search (key_send, key_sync, maps.crosses, heap.crosses, sendable) depth 60 fits 20000
+
 -- ---- what is given
+
+own_keys_send : IsSend (OwnKeys.the_field).row
+own_keys_send = search (key_send, key_sync, heap.crosses, sendable) depth 60 fits 20000
 
 watch_send : IsSend (Watch.the_field).row
 watch_send = search (heap.crosses, sendable) depth 60 fits 20000
@@ -81,7 +90,7 @@ drain_send = search (heap.crosses, sendable) depth 60 fits 20000
 module _ (L A B C D : RattleType) (lanes : Lanes.Ghosts L.Denot A.Denot B.Denot C.Denot D.Denot) (lane-a : Lane.Ghosts A.Denot) (lane-b : Lane.Ghosts B.Denot) (lane-c : Lane.Ghosts C.Denot) (lane-d : Lane.Ghosts D.Denot)
     (a : Ledger.Ghosts A.Denot) (b : Ledger.Ghosts B.Denot) (c : Ledger.Ghosts C.Denot) (d : Ledger.Ghosts D.Denot) where
   bench_send : IsSend (Bench.the_field L A B C D lanes lane-a a lane-b b lane-c c lane-d d).row
-  bench_send = search (seat_send, worker_send, client_stream_row_send, client_stream_send, watch_send, leavers_send, long_texts_send, followers_send, ends_send, growth_send, received_send, drain_send, rations_send, heap.crosses, sendable) depth 60 fits 20000
+  bench_send = search (seat_send, worker_send, client_stream_row_send, client_stream_send, watch_send, leavers_send, long_texts_send, followers_send, ends_send, growth_send, received_send, drain_send, own_keys_send, rations_send, heap.crosses, sendable) depth 60 fits 20000
 
   pub place_send : IsSend (Workplace.the_field L A B C D lanes lane-a a lane-b b lane-c c lane-d d).row
   place_send = search (bench_send, sendable) depth 60 fits 20000

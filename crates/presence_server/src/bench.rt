@@ -3,6 +3,7 @@ use crate::draining::{Drain, Due, count_anew, have_all_delivered, is_due, make_d
 use crate::ends::{Ends, ended_by};
 use crate::following::{add_newcomers, followed_by, followers_of, joined_topics, mark_followers};
 use crate::growth::Growth;
+use crate::key_ring::OwnKeys;
 use crate::received::Received;
 use crate::server::Server;
 use hook_registry::PresenceHooks;
@@ -12,7 +13,8 @@ use node_log::Level;
 use node_system::{Watch, number_of, resident_bytes};
 use node_threads::Taker;
 use serve_connections::{
-    Client, Leavers, LongTexts, Stage, Worker, hold_stalled, mark_put_off, resume_recovered,
+    Client, Leavers, LongTexts, Moment, Stage, Worker, hold_stalled, mark_put_off,
+    resume_recovered,
 };
 use serve_metrics::{Checkpoint, Counts};
 use serve_ports::{CountingPort, Followed, Followers, HintingPort, Noted, PoolPort};
@@ -126,6 +128,33 @@ fn outlook_of(client: &Client<ClientSocket>) -> Outlook {
     }
 }
 
+// Whether what was granted to a client has ended by this second.
+fn has_ended(client: &Client<ClientSocket>, second: u64) -> bool {
+    match &client.connection.grant {
+        Some(grant) => grant.ends() <= second,
+        None => false,
+    }
+}
+
+// Those to whom nothing is granted any more take the next turn, which ends them.
+fn mark_ended(worker: &mut Worker<ClientSocket>, second: u64) {
+    for place in 0..worker.len() {
+        let token = match worker.at(place) {
+            Some(client) if has_ended(client, second) => client.token,
+            _ => continue,
+        };
+        worker.mark(token);
+    }
+}
+
+// When a turn is taken.
+fn moment_of(milliseconds: u64, keys: &OwnKeys) -> Moment<'_> {
+    Moment {
+        milliseconds,
+        signing: keys.signing(),
+    }
+}
+
 // What came of a turn: what its port noted, and whether a journal was replaced by its Start.
 #[derive(Drop)]
 struct Served {
@@ -204,6 +233,7 @@ pub struct Bench<L: Lanes> {
     /// How many turns there were.
     turns: u64,
     drain: Drain,
+    keys: OwnKeys,
 }
 
 impl<L: Lanes> Drop for Bench<L> {
@@ -229,6 +259,7 @@ impl<L: Lanes> Drop for Bench<L> {
             received: _,
             turns: _,
             drain,
+            keys,
         } = self;
         drop(seat);
         drop(rations);
@@ -239,6 +270,7 @@ impl<L: Lanes> Drop for Bench<L> {
         drop(followers);
         drop(long_texts);
         drop(drain);
+        drop(keys);
     }
 }
 
@@ -275,6 +307,7 @@ impl<L: Lanes> Bench<L> {
             received: Received::new(),
             turns: 0,
             drain: Drain::new(alloc),
+            keys: OwnKeys::new(),
         }
     }
 
@@ -303,6 +336,7 @@ impl<L: Lanes> Bench<L> {
             received: _,
             turns: _,
             drain,
+            keys,
         } = self;
         drop(rations);
         drop(worker);
@@ -312,15 +346,15 @@ impl<L: Lanes> Bench<L> {
         drop(followers);
         drop(long_texts);
         drop(drain);
+        drop(keys);
         seat
     }
 
-    // Takes the connections that wait.
+    // Takes the connections that wait. Where clients sign in, each does by the token that it has shown.
     fn take_in<R: Wait, H>(&mut self, rt: &R, server: &Server<'_, H, L>) {
         let served = self.worker.len();
-        let _later = self
-            .worker
-            .take_in(rt, server.alloc, self.now, server.settings);
+        let now = moment_of(self.now, &self.keys);
+        let _later = self.worker.take_in(rt, server.alloc, now, server.settings);
         server
             .counts
             .began(self.worker.len().saturating_sub(served));
@@ -386,8 +420,9 @@ impl<L: Lanes> Bench<L> {
     ) -> Served {
         let mut port = port_at(rt, server, &mut self.seat, &mut self.rations);
         let (routes, hooks) = (server.routes, server.hooks);
+        let now = moment_of(self.now, &self.keys);
         self.worker
-            .turn(server.alloc, &mut port, routes, hooks, self.now);
+            .turn(server.alloc, &mut port, routes, hooks, now);
         served_by(server, port, self.now)
     }
 
@@ -659,6 +694,7 @@ impl<L: Lanes> Bench<L> {
         server: &Server<'_, H, L>,
     ) {
         for _ in 0..MAX_LAST_TURNS {
+            let _moved = self.keys.look(rt, &server.keys);
             self.take_in(rt, server);
             self.worker.stop_all();
             let _told = self.serve(rt, server);
@@ -712,6 +748,9 @@ impl<L: Lanes> Bench<L> {
         server: &Server<'_, H, L>,
         own: usize,
     ) {
+        if self.keys.look(rt, &server.keys) {
+            mark_ended(&mut self.worker, self.keys.second());
+        }
         self.take_in(rt, server);
         if self.is_draining(server, own) {
             self.drain(rt, server, own);

@@ -3,6 +3,7 @@ ghost use Rattle.std.specs.Prelude.{◌<◌};
 
 use crate::caller::{Caller, next_caller};
 use crate::files::client_files;
+use crate::key_ring::OwnKeys;
 use crate::neighbours::{AddressLimits, Neighbours};
 use crate::pulse::Pulse;
 use crate::reasons::dropped_by;
@@ -69,6 +70,10 @@ struct Reception {
 }
 
 impl Keeper<ClientSocket> for Reception {
+    ghost use Rattle.std.specs.Prelude.{option_map};
+
+    ghost shown = { λ s. option_map (λ v. v.items) s.token };
+
     fn standing_of(
         &mut self,
         alloc: Global,
@@ -87,6 +92,10 @@ impl Keeper<ClientSocket> for Reception {
 
     fn hang_up(&mut self, stream: &mut ClientSocket) {
         let _lost = stream.stream().shutdown(Shutdown::Write);
+    }
+
+    fn shows(&mut self, stream: &mut ClientSocket, token: Vec<u8>) {
+        stream.show(token);
     }
 }
 
@@ -127,6 +136,7 @@ pub struct Door {
     caught_up: u64,
     /// Whether there may be more to take at once.
     more: bool,
+    keys: OwnKeys,
 }
 
 impl Drop for Door {
@@ -149,6 +159,7 @@ impl Drop for Door {
             looked: _,
             caught_up: _,
             more: _,
+            keys,
         } = self;
         drop(entries);
         drop(spare);
@@ -160,6 +171,7 @@ impl Drop for Door {
         drop(seated);
         drop(queued);
         drop(waiting);
+        drop(keys);
     }
 }
 
@@ -253,6 +265,7 @@ impl Door {
             looked: 0,
             caught_up: 0,
             more: true,
+            keys: OwnKeys::new(),
         })
     }
 
@@ -542,6 +555,7 @@ impl Door {
             places,
             tells: &pulse,
             keeper: &mut reception,
+            signing: self.keys.signing(),
         };
         let opened = self.guests.turn(server.alloc, &mut front);
         self.give_back(reception);
@@ -564,6 +578,7 @@ impl Door {
             places: 0,
             tells: &pulse,
             keeper: &mut reception,
+            signing: None,
         };
         let _opened = self.observers.turn(server.alloc, &mut front);
         self.give_back(reception);
@@ -668,6 +683,7 @@ impl Door {
             }
             self.take_in(rt, server);
             self.take_observers(server.alloc);
+            let _moved = self.keys.look(rt, &server.keys);
             self.greet(rt, server);
             self.hand_on(rt, server);
             self.pause(rt);

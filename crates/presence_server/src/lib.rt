@@ -13,6 +13,7 @@ mod ends;
 mod files;
 mod following;
 mod growth;
+mod key_ring;
 pub mod laws;
 mod load;
 mod neighbours;
@@ -25,6 +26,7 @@ mod server;
 
 pub use bench::Bench;
 pub use door::{Door, DoorLimits, Entries, LISTENER, METRICS_LISTENER};
+pub use key_ring::KeyRing;
 pub use neighbours::AddressLimits;
 pub use place::{Workplace, seats_of};
 pub use runtime::ServeRuntime;

@@ -18,6 +18,7 @@ pub(crate) fn told_of(answer: Answer) -> Option<Reason> {
         Answer::Full => Some(Reason::Full),
         Answer::Crowded => Some(Reason::Crowded),
         Answer::Hasty => Some(Reason::Hasty),
+        Answer::Unauthorized(_) => Some(Reason::Unauthorized),
     }
 }
 

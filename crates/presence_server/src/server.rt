@@ -2,6 +2,7 @@
 ghost use Rattle.std.specs.Prelude.{◌≡◌};
 
 use crate::door::Door;
+use crate::key_ring::KeyRing;
 use crate::place::Workplace;
 use client_settings::Settings;
 use hook_registry::{PresenceHooks, Routes};
@@ -93,6 +94,8 @@ pub struct Server<'a, H, L: Lanes> {
     pub door_bell: Bell,
     pub links: Links,
     pub stopped: AtomicBool,
+    /// Under which keys clients sign in, if they have to.
+    pub keys: KeyRing,
     ghost all_shards: { links.shards ≡ pool.shards },
 }
 
@@ -116,6 +119,7 @@ impl<'a, H, L: Lanes> Drop for Server<'a, H, L> {
             door_bell,
             links,
             stopped,
+            keys,
         } = self;
         drop(pool);
         drop(budgets);
@@ -126,6 +130,7 @@ impl<'a, H, L: Lanes> Drop for Server<'a, H, L> {
         drop(door_bell);
         drop(links);
         drop(stopped);
+        drop(keys);
     }
 }
 
@@ -188,6 +193,7 @@ impl<'a, H, L: Lanes> Server<'a, H, L> {
             door_bell,
             links,
             stopped,
+            keys,
         } = self;
         drop(budgets);
         drop(memory);
@@ -197,6 +203,7 @@ impl<'a, H, L: Lanes> Server<'a, H, L> {
         drop(door_bell);
         drop(links);
         drop(stopped);
+        drop(keys);
         pool
     }
 }

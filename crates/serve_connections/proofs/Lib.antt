@@ -1,4 +1,5 @@
 pub mod Marks
+mod GrantLemmas
 mod PieceLemmas
 mod Turnings
 mod Sparings

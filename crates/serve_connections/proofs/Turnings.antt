@@ -1,5 +1,5 @@
 -- The steps of a turn, put together.
-use Rattle.std.proofs.Common.{◌≡◌, ℕ, List, [], Bool, true, false, cond, ◌||◌, is_some, Option, Result, Ok, Err, IfOk, inl, inr, refl, sym, ap, ◌∙◌, subst}
+use Rattle.std.proofs.Common.{◌≡◌, ℕ, List, [], Bool, true, false, cond, ◌||◌, is_some, Option, Some, None, Result, Ok, Err, IfOk, inl, inr, refl, sym, ap, ◌∙◌, subst}
 use Rattle.std.specs.Prelude.{String, Vec}
 use Rattle.std.specs.Global.{Global}
 use Rattle.tungstenite.specs.Socket.{Socket}
@@ -7,7 +7,7 @@ use Rattle.phx_message.specs.Reading.{decoded}
 use Rattle.phx_message.specs.declared.message.TheConstants.Limits as the_limits
 use Rattle.channel_session.specs.Delivery.{DeliveredBy, InForce}
 use Rattle.channel_session.specs.declared.frames.Delivery.{Delivery}
-use Rattle.channel_session.specs.Ran.{RanBy, texts_in}
+use Rattle.channel_session.specs.Ran.{texts_in}
 use Rattle.channel_session.specs.declared.fault.SessionFault.{SessionFault}
 use Rattle.channel_session.specs.declared.fault.SessionFault.TheVariants.{Failed, OutOfMemory}
 use Rattle.channel_pieces.specs.Piecewise.{Piecewise}
@@ -15,7 +15,8 @@ use Rattle.channel_pieces.specs.declared.telling.Telling.{Telling}
 use Rattle.serve_connections.specs.Hearing.{Hears, is_message}
 use Rattle.client_settings.specs.Meaning.{Meant, reads, answers, meaning}
 use Rattle.client_settings.specs.declared.settings.Settings.{Settings}
-use Rattle.serve_connections.specs.Turning.{Around, ActsOn, AnswersText, BearsOut, BearsSilence, ClosesFor, Continues, Deals, EndsSession, Responds, Serves, StopsServing, TakesDelivery, TakesTurn, Tells, dealt, dealt_texts, is_owed_ping, may_have_more, patience, progress_of, room_in, wanting}
+use Rattle.serve_connections.specs.Turning.{Around, ActsOn, AnswersText, BearsOut, BearsSilence, ClosesFor, Continues, Deals, EndsSession, Responds, Serves, ServesIf, StopsServing, TakesDelivery, TakesTurn, Tells, dealt, dealt_texts, is_owed_ping, may_have_more, patience, progress_of, room_in, wanting}
+use Rattle.serve_connections.specs.Signed.{RunsText, leave}
 use Rattle.serve_connections.specs.Sparing.{Spares}
 use Rattle.serve_connections.specs.declared.connection.TheConstants.{MAX_DEALT}
 use Rattle.serve_connections.specs.declared.cause.Cause.{Cause}
@@ -25,8 +26,11 @@ use Rattle.serve_connections.specs.declared.connection.Progress.{Progress}
 use Rattle.serve_connections.specs.declared.connection.Stage.{Stage}
 use Rattle.serve_connections.specs.declared.connection.Stage.TheVariants.{Open, Ending}
 use Rattle.serve_connections.specs.declared.hearing.Heard.{Heard}
+use Rattle.serve_connections.specs.declared.moment.Moment.{Moment}
+use Rattle.tokens.specs.declared.grant.Grant.{Grant}
+use Rattle.tokens.specs.declared.signing.Signing.{Signing}
 
-module _ {S K P : Type 0} (w : Around S P) (routes : List (List ℕ × ℕ)) (now : ℕ) where
+module _ {S K P : Type 0} (w : Around S P) (routes : List (List ℕ × ℕ)) (now : Moment) where
   pub serves : (old mid new : Connection S K) (before between after : P) (heard : Heard) (socket : Socket S) (first : Result (Unit {0}) Cause) (came : Bool) (result : Result Bool Cause)
       → Hears w.remaining old.socket socket heard → Responds w routes now heard (record old { socket = socket }) mid before between first
       → came ≡ is_message heard → Continues w came first mid new between after result → Serves w routes now old new before after result
@@ -42,11 +46,11 @@ module _ {S K P : Type 0} (w : Around S P) (routes : List (List ℕ × ℕ)) (no
         continues = subst (λ (b : Bool). Continues w b first mid new between after result) is continues;
       }
 
-  pub goes_on : (old new : Connection S K) (before after : P) (came : Bool) → Serves w routes now old new before after (Ok came) → TakesTurn w routes now old new before after (progress_of came)
+  pub goes_on : (old new : Connection S K) (before after : P) (came : Bool) → ServesIf w (leave now.signing old.grant) routes now old new before after (Ok came) → TakesTurn w routes now old new before after (progress_of came)
   goes_on old new before after came h =
       record { served = new; between = after; outcome = Ok came; serves = h; goes_on = (refl, refl, refl) }
 
-  pub ends : (old served closed new : Connection S K) (before between after : P) (cause : Cause) (result : Progress) → Serves w routes now old served before between (Err cause)
+  pub ends : (old served closed new : Connection S K) (before between after : P) (cause : Cause) (result : Progress) → ServesIf w (leave now.signing old.grant) routes now old served before between (Err cause)
       → ClosesFor w.contents cause served.socket closed.socket → closed ≡ record served { socket = closed.socket } → EndsSession w.step cause closed new between after result
       → TakesTurn w routes now old new before after result
   ends old served closed new before between after cause result h closes kept e =
@@ -97,6 +101,14 @@ turned {S} {K} old mid new kept held session told =
     ∙ (ap (λ (s : InForce). record old { socket = new.socket; session = s; telling = mid.telling }) (sym session)
     ∙ ap (λ (u : Telling). record old { socket = new.socket; session = new.session; telling = u }) (sym told)))
 
+-- the same of a call behind which something else may be granted
+answered : {S K : Type 0} (old mid new : Connection S K) → new ≡ record mid { socket = new.socket } → mid ≡ record old { session = mid.session; telling = mid.telling; grant = mid.grant }
+    → new ≡ record old { socket = new.socket; session = new.session; telling = new.telling; grant = new.grant }
+answered {S} {K} old mid new kept held =
+    let P : Connection S K → Type 0 = λ c. c ≡ record old { socket = c.socket; session = c.session; telling = c.telling; grant = c.grant } in
+    let at_mid : record mid { socket = new.socket } ≡ record old { socket = new.socket; session = mid.session; telling = mid.telling; grant = mid.grant } = ap (λ (c : Connection S K). record c { socket = new.socket }) held in
+    subst P (sym kept) at_mid
+
 -- ---- what a text means
 
 -- a session that is asked nothing for want of memory
@@ -105,51 +117,51 @@ unasked : {S K P : Type 0} (w : Around S P) (routes : List (List ℕ × ℕ)) (t
 unasked w routes text old before true e = record { said = []; writes = tt; ended = (e, record { port = refl; session = refl }) }
 unasked w routes text old before false e = record { said = []; writes = tt; ended = (e, inl (record { port = refl; session = refl })) }
 
-pub wants_memory : {S K P : Type 0} (w : Around S P) (routes : List (List ℕ × ℕ)) (meant : Meant) (old : Connection S K) (before : P)
-    → ActsOn w routes meant old old before before (Err (wanting old.session))
-wants_memory w routes (reads text ok) old before = record { answer = Err (wanting old.session); ran = unasked w routes text old before old.session.failed refl; said = refl }
-wants_memory w routes (answers texts) old before = record { said = inr refl; session = refl; telling = refl; port = refl }
+pub wants_memory : {S K P : Type 0} (w : Around S P) (signing : Option Signing) (routes : List (List ℕ × ℕ)) (meant : Meant) (old : Connection S K) (before : P)
+    → ActsOn w signing routes meant old old before before (Err (wanting signing old.session))
+wants_memory w None routes (reads text ok) old before = record { answer = Err (wanting None old.session); ran = (unasked w routes text old before old.session.failed refl, refl); said = refl }
+wants_memory w (Some signing) routes (reads text ok) old before = record { answer = Err OutOfMemory; ran = inr (record { fault = refl; port = refl; session = refl; kept = refl }); said = refl }
+wants_memory w None routes (answers texts) old before = record { said = inr refl; session = refl; telling = refl; grant = refl; port = refl }
+wants_memory w (Some signing) routes (answers texts) old before = record { said = inr refl; session = refl; telling = refl; grant = refl; port = refl }
 
 -- what comes of a text has nothing to do with the socket
-acts_past : {S K P : Type 0} (w : Around S P) (routes : List (List ℕ × ℕ)) (meant : Meant) (old mid : Connection S K) (socket : Socket S) (before after : P)
-    (answer : Result (Vec (String Global) Global) SessionFault) → ActsOn w routes meant old mid before after answer → ActsOn w routes meant old (record mid { socket = socket }) before after answer
-acts_past w routes (reads text ok) old mid socket before after answer h = record { answer = h.answer; ran = h.ran; said = h.said }
-acts_past w routes (answers texts) old mid socket before after answer h = record { said = h.said; session = h.session; telling = h.telling; port = h.port }
+acts_past : {S K P : Type 0} (w : Around S P) (signing : Option Signing) (routes : List (List ℕ × ℕ)) (meant : Meant) (old mid : Connection S K) (socket : Socket S) (before after : P)
+    (answer : Result (Vec (String Global) Global) SessionFault) → ActsOn w signing routes meant old mid before after answer → ActsOn w signing routes meant old (record mid { socket = socket }) before after answer
+acts_past w signing routes (reads text ok) old mid socket before after answer h = record { answer = h.answer; ran = h.ran; said = h.said }
+acts_past w signing routes (answers texts) old mid socket before after answer h = record { said = h.said; session = h.session; telling = h.telling; grant = h.grant; port = h.port }
 
 -- what its client gets of what was answered goes out
-pub answers_out : {S K P : Type 0} (w : Around S P) (routes : List (List ℕ × ℕ)) (text : List ℕ) (old mid new : Connection S K) (before after : P)
+pub answers_out : {S K P : Type 0} (w : Around S P) (signing : Option Signing) (routes : List (List ℕ × ℕ)) (text : List ℕ) (old mid new : Connection S K) (before after : P)
     (answer : Result (Vec (String Global) Global) SessionFault) (texts : Vec (String Global) Global) (result : Result (Unit {0}) Cause)
-    → ActsOn w routes (meaning old.settings old.session text) old mid before after answer
-    → mid ≡ record old { session = mid.session; telling = mid.telling } → answer ≡ Ok texts
-    → Tells w.contents mid.settings old.session.pid mid.socket new.socket (Ok (texts_in texts)) result → new ≡ record mid { socket = new.socket } → AnswersText w routes text old new before after result
-answers_out {S} {K} {P} w routes text old mid new before after answer texts result acts held is sent kept =
-    let session : new.session ≡ mid.session = ap (λ (c : Connection S K). c.session) kept in
-    let told : new.telling ≡ mid.telling = ap (λ (c : Connection S K). c.telling) kept in
+    → ActsOn w signing routes (meaning old.settings old.session text) old mid before after answer
+    → mid ≡ record old { session = mid.session; telling = mid.telling; grant = mid.grant } → answer ≡ Ok texts
+    → Tells w.contents mid.settings old.session.pid mid.socket new.socket (Ok (texts_in texts)) result → new ≡ record mid { socket = new.socket } → AnswersText w signing routes text old new before after result
+answers_out {S} {K} {P} w signing routes text old mid new before after answer texts result acts held is sent kept =
     let socket : mid.socket ≡ old.socket = ap (λ (c : Connection S K). c.socket) held in
     let settings : mid.settings ≡ old.settings = ap (λ (c : Connection S K). c.settings) held in
     record {
       answer = Ok texts;
       acts =
-          subst (λ (r : Result (Vec (String Global) Global) SessionFault). ActsOn w routes (meaning old.settings old.session text) old new before after r) is
-          (subst (λ (c : Connection S K). ActsOn w routes (meaning old.settings old.session text) old c before after answer) (sym kept)
-          (acts_past w routes (meaning old.settings old.session text) old mid new.socket before after answer acts));
+          subst (λ (r : Result (Vec (String Global) Global) SessionFault). ActsOn w signing routes (meaning old.settings old.session text) old new before after r) is
+          (subst (λ (c : Connection S K). ActsOn w signing routes (meaning old.settings old.session text) old c before after answer) (sym kept)
+          (acts_past w signing routes (meaning old.settings old.session text) old mid new.socket before after answer acts));
       sent =
           subst (λ (g : Settings). Tells w.contents g old.session.pid old.socket new.socket (Ok (texts_in texts)) result) settings
           (subst (λ (s : Socket S). Tells w.contents mid.settings old.session.pid s new.socket (Ok (texts_in texts)) result) socket sent);
-      kept = turned old mid new kept held session told;
+      kept = answered old mid new kept held;
     }
 
 -- or the connection ends, where the session has a fault
-pub answers_fault : {S K P : Type 0} (w : Around S P) (routes : List (List ℕ × ℕ)) (text : List ℕ) (old new : Connection S K) (before after : P)
-    (answer : Result (Vec (String Global) Global) SessionFault) (fault : SessionFault) → ActsOn w routes (meaning old.settings old.session text) old new before after answer
-    → new ≡ record old { session = new.session; telling = new.telling } → answer ≡ Err fault → AnswersText w routes text old new before after (Err (Fault fault))
-answers_fault {S} {K} {P} w routes text old new before after answer fault acts held is =
+pub answers_fault : {S K P : Type 0} (w : Around S P) (signing : Option Signing) (routes : List (List ℕ × ℕ)) (text : List ℕ) (old new : Connection S K) (before after : P)
+    (answer : Result (Vec (String Global) Global) SessionFault) (fault : SessionFault) → ActsOn w signing routes (meaning old.settings old.session text) old new before after answer
+    → new ≡ record old { session = new.session; telling = new.telling; grant = new.grant } → answer ≡ Err fault → AnswersText w signing routes text old new before after (Err (Fault fault))
+answers_fault {S} {K} {P} w signing routes text old new before after answer fault acts held is =
     let socket : new.socket ≡ old.socket = ap (λ (c : Connection S K). c.socket) held in
     record {
       answer = Err fault;
-      acts = subst (λ (r : Result (Vec (String Global) Global) SessionFault). ActsOn w routes (meaning old.settings old.session text) old new before after r) is acts;
+      acts = subst (λ (r : Result (Vec (String Global) Global) SessionFault). ActsOn w signing routes (meaning old.settings old.session text) old new before after r) is acts;
       sent = inl (refl, socket);
-      kept = held ∙ ap (λ (s : Socket S). record old { socket = s; session = new.session; telling = new.telling }) (sym socket);
+      kept = held ∙ ap (λ (s : Socket S). record old { socket = s; session = new.session; telling = new.telling; grant = new.grant }) (sym socket);
     }
 
 -- what was delivered within the room that there was goes out

@@ -5,7 +5,7 @@ use Rattle.channel_session.specs.Delivery.{DeliveredBy}
 use Rattle.channel_rules.specs.InForce.{InForce}
 use Rattle.channel_session.specs.declared.frames.Delivery.{Delivery}
 use Rattle.channel_session.specs.Ending.{EndedBy}
-use Rattle.channel_session.specs.Ran.{RanBy, texts_in}
+use Rattle.channel_session.specs.Ran.{texts_in}
 use Rattle.channel_session.specs.declared.fault.SessionFault.{SessionFault}
 use Rattle.channel_session.specs.declared.fault.SessionFault.TheVariants.{Failed, OutOfMemory as OutOfMemoryFault}
 use Rattle.channel_rules.specs.Asks.{Ask, Answer}
@@ -20,6 +20,7 @@ use Rattle.client_settings.specs.Telling.{told_by}
 use Rattle.client_settings.specs.declared.settings.Settings.{Settings}
 use Rattle.serve_sockets.specs.Passing.{is_passing}
 use Rattle.serve_sockets.specs.Sending.{SentAll, Stops}
+use Rattle.tokens.specs.declared.signing.Signing.{Signing}
 use Rattle.tungstenite.specs.Failure.{IsIo, WriteFails}
 use Rattle.tungstenite.specs.Socket.{Socket, Flushed, Writes}
 use Rattle.tungstenite.specs.declared.error.Error.{Error}
@@ -30,6 +31,7 @@ use Rattle.websocket.specs.Content.{ping}
 use Rattle.websocket.specs.declared.error.Error.{Error as FrameError}
 use Rattle.serve_connections.specs.Causes.{cause_of, code_of, reason_of}
 use Rattle.serve_connections.specs.Hearing.{Hears, is_message}
+use Rattle.serve_connections.specs.Signed.{RunsText, leave}
 use Rattle.serve_connections.specs.Sparing.{Spares}
 use Rattle.serve_connections.specs.declared.cause.Cause.{Cause}
 use Rattle.serve_connections.specs.declared.cause.Cause.TheVariants.{Silent, Fault, Stream, Stopping}
@@ -39,6 +41,7 @@ use Rattle.serve_connections.specs.declared.connection.Progress.TheVariants as p
 use Rattle.serve_connections.specs.declared.connection.Stage.{Stage}
 use Rattle.serve_connections.specs.declared.connection.Stage.TheVariants.{Open, Ending, Over}
 use Rattle.serve_connections.specs.declared.connection.TheConstants.{MAX_DEALT, MAX_SILENCE, PING_SILENCE}
+use Rattle.serve_connections.specs.declared.moment.Moment.{Moment}
 use Rattle.serve_connections.specs.declared.sparing.TheConstants.{MAX_UNSENT}
 use Rattle.serve_connections.specs.declared.hearing.Heard.{Heard}
 use Rattle.serve_connections.specs.declared.hearing.Heard.TheVariants.{Text, Sign, Nothing, Ends}
@@ -74,8 +77,9 @@ dealt_texts (Ok delivery) = Ok (texts_in delivery.texts)
 dealt_texts (Err fault) = Err fault
 
 -- as what a session ends that is asked nothing for want of memory
-abbrev pub wanting : InForce → SessionFault
-wanting s = if s.failed then Failed else OutOfMemoryFault
+abbrev pub wanting : Option Signing → InForce → SessionFault
+wanting None s = if s.failed then Failed else OutOfMemoryFault
+wanting (Some signing) s = OutOfMemoryFault
 
 -- what a client of this number gets of them
 abbrev pub told_texts : Settings → ℕ → Result (List (List ℕ)) SessionFault → Result (List (List ℕ)) SessionFault
@@ -203,34 +207,36 @@ module _ {S K P : Type 0} (w : Around S P) where
   said_for (Err fault) ok = Err fault
 
   -- The session answers this text.
-  pub record Runs (routes : List (List ℕ × ℕ)) (text : List ℕ) (ok : List (List ℕ)) (old new : Connection S K)
-      (before after : P) (result : Result (Vec (String Global) Global) SessionFault) : Type 0 where
+  pub record Runs (signing : Option Signing) (routes : List (List ℕ × ℕ)) (text : List ℕ) (ok : List (List ℕ))
+      (old new : Connection S K) (before after : P) (result : Result (Vec (String Global) Global) SessionFault) : Type 0 where
     pub answer : Result (Vec (String Global) Global) SessionFault
-    pub ran : RanBy w.worded (Piecewise (w.step old.session.pid)) routes old.session (decoded the_limits.CLIENT text)
-        (before, old.telling.untold) (after, new.telling.untold) new.session answer
+    pub ran : RunsText w.worded (w.step old.session.pid) routes signing old.grant old.session
+        (decoded the_limits.CLIENT text) (before, old.telling.untold) (after, new.telling.untold) new.session new.grant answer
     pub said : ran_texts result ≡ said_for (ran_texts answer) ok
 
   -- It is asked nothing, and these texts are said, unless memory is wanted.
-  pub record Speaks (texts : List (List ℕ)) (old new : Connection S K) (before after : P)
+  pub record Speaks (signing : Option Signing) (texts : List (List ℕ)) (old new : Connection S K) (before after : P)
       (result : Result (Vec (String Global) Global) SessionFault) : Type 0 where
-    pub said : (ran_texts result ≡ Ok texts) ⊎ (result ≡ Err (wanting old.session))
+    pub said : (ran_texts result ≡ Ok texts) ⊎ (result ≡ Err (wanting signing old.session))
     pub session : new.session ≡ old.session
     pub telling : new.telling ≡ old.telling
+    pub grant : new.grant ≡ old.grant
     pub port : after ≡ before
 
   -- What comes of a text, by what it means.
-  abbrev pub ActsOn : List (List ℕ × ℕ) → Meant → Connection S K → Connection S K → P → P
+  abbrev pub ActsOn : Option Signing → List (List ℕ × ℕ) → Meant → Connection S K → Connection S K → P → P
       → Result (Vec (String Global) Global) SessionFault → Type 0
-  ActsOn routes (reads text ok) old new before after result = Runs routes text ok old new before after result
-  ActsOn routes (answers texts) old new before after result = Speaks texts old new before after result
+  ActsOn signing routes (reads text ok) old new before after result = Runs signing routes text ok old new before after result
+  ActsOn signing routes (answers texts) old new before after result = Speaks signing texts old new before after result
 
   -- A text is answered, and its client gets what it is told.
-  pub record AnswersText (routes : List (List ℕ × ℕ)) (text : List ℕ) (old new : Connection S K) (before after : P)
-      (result : Result (Unit {0}) Cause) : Type 0 where
+  pub record AnswersText (signing : Option Signing) (routes : List (List ℕ × ℕ)) (text : List ℕ) (old new : Connection S K)
+      (before after : P) (result : Result (Unit {0}) Cause) : Type 0 where
     pub answer : Result (Vec (String Global) Global) SessionFault
-    pub acts : ActsOn routes (meaning old.settings old.session text) old new before after answer
+    pub acts : ActsOn signing routes (meaning old.settings old.session text) old new before after answer
     pub sent : Tells w.contents old.settings old.session.pid old.socket new.socket (ran_texts answer) result
-    pub kept : new ≡ record old { socket = new.socket; session = new.session; telling = new.telling }
+    pub kept : new
+        ≡ record old { socket = new.socket; session = new.session; telling = new.telling; grant = new.grant }
 
   -- nothing was done, and this comes of it
   pub record Rests (old new : Connection S K) (before after : P)
@@ -247,12 +253,14 @@ module _ {S K P : Type 0} (w : Around S P) where
   text_at now c = record c { heard = now; pinged = false; messages = min (c.messages + 1) (2 ^ 64 - 1) }
 
   -- What is done by what was read.
-  abbrev pub Responds : List (List ℕ × ℕ) → ℕ → Heard → Connection S K → Connection S K → P → P
+  abbrev pub Responds : List (List ℕ × ℕ) → Moment → Heard → Connection S K → Connection S K → P → P
       → Result (Unit {0}) Cause → Type 0
   Responds routes now (Text words) old new before after result =
-      AnswersText routes words (text_at now old) new before after result
-  Responds routes now Sign old new before after result = Rests (heard_at now old) new before after result (Ok tt)
-  Responds routes now Nothing old new before after result = BearsSilence w.contents now old new result × (after ≡ before)
+      AnswersText now.signing routes words (text_at now.milliseconds old) new before after result
+  Responds routes now Sign old new before after result =
+      Rests (heard_at now.milliseconds old) new before after result (Ok tt)
+  Responds routes now Nothing old new before after result =
+      BearsSilence w.contents now.milliseconds old new result × (after ≡ before)
   Responds routes now (Ends cause) old new before after result = Rests old new before after result (Err cause)
 
   -- ---- one delivery
@@ -280,7 +288,7 @@ module _ {S K P : Type 0} (w : Around S P) where
   Continues came (Ok u) mid new between after (Err cause) = Deals mid new between after (Err cause)
 
   -- At most one message is read and answered, and what waits is delivered.
-  pub record Serves (routes : List (List ℕ × ℕ)) (now : ℕ) (old new : Connection S K) (before after : P)
+  pub record Serves (routes : List (List ℕ × ℕ)) (now : Moment) (old new : Connection S K) (before after : P)
       (result : Result Bool Cause) : Type 0 where
     pub heard : Heard
     pub socket : Socket S
@@ -291,6 +299,13 @@ module _ {S K P : Type 0} (w : Around S P) where
     pub responds : Responds routes now heard (record old { socket = socket }) mid before between first
     pub continues : Continues (is_message heard) first mid new between after result
 
+  -- It does where its client may go on; else nothing is read of it, and nothing asked.
+  abbrev pub ServesIf : Result (Unit {0}) Cause → List (List ℕ × ℕ) → Moment → Connection S K → Connection S K → P → P
+      → Result Bool Cause → Type 0
+  ServesIf (Ok u) routes now old new before after result = Serves routes now old new before after result
+  ServesIf (Err cause) routes now old new before after result =
+      (new ≡ old) × (after ≡ before) × (result ≡ Err cause)
+
   -- A connection that ends gets the close frame of its cause, and then its session's end is asked for.
   abbrev pub GoesOn : Connection S K → Connection S K → P → P → Result Bool Cause → Progress → Type 0
   GoesOn served new between after (Ok came) result = (new ≡ served) × (after ≡ between) × (result ≡ progress_of came)
@@ -298,12 +313,12 @@ module _ {S K P : Type 0} (w : Around S P) where
       (closed : Socket S) × ClosesFor w.contents cause served.socket closed
       × EndsSession w.step cause (record served { socket = closed }) new between after result
 
-  pub record TakesTurn (routes : List (List ℕ × ℕ)) (now : ℕ) (old new : Connection S K) (before after : P)
+  pub record TakesTurn (routes : List (List ℕ × ℕ)) (now : Moment) (old new : Connection S K) (before after : P)
       (result : Progress) : Type 0 where
     pub served : Connection S K
     pub between : P
     pub outcome : Result Bool Cause
-    pub serves : Serves routes now old served before between outcome
+    pub serves : ServesIf (leave now.signing old.grant) routes now old served before between outcome
     pub goes_on : GoesOn served new between after outcome result
 
   -- ---- a turn that reads nothing
@@ -323,7 +338,7 @@ module _ {S K P : Type 0} (w : Around S P) where
   Delivers (Over cause) old new before after result = (new ≡ old) × (after ≡ before) × (result ≡ progress.Over)
 
   -- What a turn does, by how far the connection has come.
-  abbrev pub Turns : Stage → List (List ℕ × ℕ) → ℕ → Connection S K → Connection S K → P → P → Progress → Type 0
+  abbrev pub Turns : Stage → List (List ℕ × ℕ) → Moment → Connection S K → Connection S K → P → P → Progress → Type 0
   Turns Open routes now old new before after result = TakesTurn routes now old new before after result
   Turns (Ending cause) routes now old new before after result = EndsSession w.step cause old new before after result
   Turns (Over cause) routes now old new before after result = (new ≡ old) × (after ≡ before) × (result ≡ progress.Over)

@@ -5,16 +5,18 @@ ghost use Rattle.number_texts.specs.Marks.{become};
 ghost use Rattle.client_settings.specs.Meaning.{meaning};
 ghost use Rattle.tungstenite.specs.Socket.{Flushed};
 ghost use Rattle.serve_connections.specs.Hearing.{is_message};
-ghost use Rattle.serve_connections.specs.Turning.{around, ActsOn, AnswersText, AsksIf, BearsSilence, ClosesFor, Continues, Deals, Delivers, behind_flush, broken_off, EndsSession, Responds, Runs, Serves, Flushes, Pings, StopsServing, TakesDelivery, TakesTurn, Tells, Turns, dealt, dealt_texts, is_owed_ping, may_have_more, patience, progress_of as progress_in, ran_texts, said_for as said_in_place, wanting};
+ghost use Rattle.serve_connections.specs.Turning.{around, ActsOn, AnswersText, AsksIf, BearsSilence, ClosesFor, Continues, Deals, Delivers, behind_flush, broken_off, EndsSession, Responds, Runs, Serves, ServesIf, Flushes, Pings, StopsServing, TakesDelivery, TakesTurn, Tells, Turns, dealt, dealt_texts, is_owed_ping, may_have_more, patience, progress_of as progress_in, ran_texts, said_for as said_in_place, wanting};
 ghost use Rattle.channel_session.specs.Delivery.{DeliveredBy};
 ghost use Rattle.channel_session.specs.Ran.{RanBy};
 ghost use Rattle.channel_rules.specs.Said.{Worded, Noted};
 ghost use Rattle.channel_pieces.specs.Piecewise.{Piecewise};
+ghost use Rattle.serve_connections.specs.Signed.{RunsText, leave};
 ghost use Rattle.serve_connections.specs.Sparing.{Spares};
 ghost use Rattle.serve_sockets.specs.declared.web_socket.TheConstants.{MAX_WAITING};
 
 use crate::cause::{Cause, cause_of, close_code, close_reason};
 use crate::hearing::{Heard, hear};
+use crate::moment::Moment;
 use crate::pieces::{deliver_over, run_over};
 use crate::sparing::MAX_UNSENT;
 use channel_pieces::{PiecewisePort, Telling};
@@ -26,6 +28,7 @@ use phx_message::Limits;
 use serve_sockets::{MAX_WAITING, WebSocket, is_passing, queue_all};
 use std::alloc::Global;
 use std::io::{Read, Write};
+use tokens::{Grant, Signing};
 use tungstenite::{Bytes, CloseFrame, Error, MaskKeys, Message, Utf8Bytes, WebSocketConfig};
 
 /// How long a connection may be without a message, in milliseconds.
@@ -83,6 +86,8 @@ pub struct Connection<S, K> {
     /// How many texts came.
     pub messages: u64,
     pub stage: Stage,
+    /// What is granted to its client, where clients sign in.
+    pub grant: Option<Grant>,
 }
 
 impl<S: Drop, K: Drop> Drop for Connection<S, K> {
@@ -96,11 +101,13 @@ impl<S: Drop, K: Drop> Drop for Connection<S, K> {
             pinged: _,
             messages: _,
             stage: _,
+            grant,
         } = self;
         drop(socket);
         drop(session);
         drop(telling);
         drop(settings);
+        drop(grant);
     }
 }
 
@@ -159,6 +166,7 @@ impl<S: Read + Write + Drop, K: MaskKeys + Drop> Connection<S, K> {
           pinged = false;
           messages = 0;
           stage = Stage.Open;
+          grant = None;
         } }
     {
         Connection {
@@ -170,6 +178,7 @@ impl<S: Read + Write + Drop, K: MaskKeys + Drop> Connection<S, K> {
             pinged: false,
             messages: 0,
             stage: Stage::Open,
+            grant: None,
         }
     }
 
@@ -187,8 +196,8 @@ impl<S: Read + Write + Drop, K: MaskKeys + Drop> Connection<S, K> {
         }
     }
 
-    // What the session answers to a text that it reads.
-    fn run_read<P: Port, H: PresenceHooks>(
+    // What the session answers to a text, where clients don't sign in.
+    fn run<P: Port, H: PresenceHooks>(
         &mut self,
         alloc: Global,
         port: &mut P,
@@ -204,11 +213,33 @@ impl<S: Read + Write + Drop, K: MaskKeys + Drop> Connection<S, K> {
         run_over(alloc, &mut self.session, &mut pieces, channels, text)
     }
 
-    // Why a session is asked nothing, where memory is wanting.
-    fn no_memory(&self) -> SessionFault
-        ensures { result ≡ wanting self.now.session }
+    // What is answered to a text that the session reads.
+    fn run_text<P: Port, H: PresenceHooks>(
+        &mut self,
+        alloc: Global,
+        port: &mut P,
+        channels: Channels<'_, H>,
+        signing: Option<Signing<'_>>,
+        text: &str,
+    ) -> Result<Vec<String>, SessionFault>
+        ensures ran { RunsText (Worded (H.PresenceHooks.fetched channels.entry.hooks.now) (H.PresenceHooks.plain channels.entry.hooks.now))
+            (P.step self.old.session.pid) channels.entry.routes.now signing.entry self.old.grant self.old.session
+            (decoded Limits.CLIENT text.now) (port.old, self.old.telling.untold) (port.new, self.new.telling.untold)
+            self.new.session self.new.grant result }
+        ensures kept { self.new
+            ≡ record self.old { session = self.new.session; telling = self.new.telling; grant = self.new.grant } }
     {
-        if self.session.failed() {
+        match signing {
+            None => self.run(alloc, port, channels, text),
+            Some(signing) => self.run_signed(alloc, port, channels, signing, text),
+        }
+    }
+
+    // Why a session is asked nothing, where memory is wanting.
+    fn no_memory(&self, signing: Option<Signing<'_>>) -> SessionFault
+        ensures { result ≡ wanting signing.entry self.now.session }
+    {
+        if signing.is_none() && self.session.failed() {
             SessionFault::Failed
         } else {
             SessionFault::OutOfMemory
@@ -221,37 +252,43 @@ impl<S: Read + Write + Drop, K: MaskKeys + Drop> Connection<S, K> {
         alloc: Global,
         port: &mut P,
         channels: Channels<'_, H>,
+        signing: Option<Signing<'_>>,
         text: &str,
         reading: Reading,
     ) -> Result<Vec<String>, SessionFault>
-        ensures ran { Runs (around S.remaining S.contents P.step H.PresenceHooks channels.entry.hooks.now) channels.entry.routes.now
-            (become text.now reading.text) (map string_bytes reading.ok.items) self.old self.new port.old port.new result }
-        ensures kept { self.new ≡ record self.old { session = self.new.session; telling = self.new.telling } }
+        ensures ran { Runs (around S.remaining S.contents P.step H.PresenceHooks channels.entry.hooks.now) signing.entry
+            channels.entry.routes.now (become text.now reading.text) (map string_bytes reading.ok.items) self.old self.new port.old
+            port.new result }
+        ensures kept { self.new
+            ≡ record self.old { session = self.new.session; telling = self.new.telling; grant = self.new.grant } }
     {
         let Reading { text: other, ok } = reading;
         let answer = match &other {
-            Some(other) => self.run_read(alloc, port, channels, other.as_str()),
-            None => self.run_read(alloc, port, channels, text),
+            Some(other) => self.run_text(alloc, port, channels, signing, other.as_str()),
+            None => self.run_text(alloc, port, channels, signing, text),
         };
         said_for(answer, ok)
     }
 
     // What is said to a text.
-    fn run<P: Port, H: PresenceHooks>(
+    fn run_meant<P: Port, H: PresenceHooks>(
         &mut self,
         alloc: Global,
         port: &mut P,
         channels: Channels<'_, H>,
+        signing: Option<Signing<'_>>,
         text: &str,
     ) -> Result<Vec<String>, SessionFault>
-        ensures ran { ActsOn (around S.remaining S.contents P.step H.PresenceHooks channels.entry.hooks.now) channels.entry.routes.now
-            (meaning self.old.settings self.old.session text.now) self.old self.new port.old port.new result }
-        ensures kept { self.new ≡ record self.old { session = self.new.session; telling = self.new.telling } }
+        ensures ran { ActsOn (around S.remaining S.contents P.step H.PresenceHooks channels.entry.hooks.now) signing.entry
+            channels.entry.routes.now (meaning self.old.settings self.old.session text.now) self.old self.new port.old port.new
+            result }
+        ensures kept { self.new
+            ≡ record self.old { session = self.new.session; telling = self.new.telling; grant = self.new.grant } }
     {
         match self.settings.meaning(alloc, &self.session, text) {
-            Ok(Meaning::Reads(reading)) => self.run_as(alloc, port, channels, text, reading),
+            Ok(Meaning::Reads(reading)) => self.run_as(alloc, port, channels, signing, text, reading),
             Ok(Meaning::Answers(texts)) => Ok(texts),
-            Err(_) => Err(self.no_memory()),
+            Err(_) => Err(self.no_memory(signing)),
         }
     }
 
@@ -260,16 +297,15 @@ impl<S: Read + Write + Drop, K: MaskKeys + Drop> Connection<S, K> {
         &mut self,
         alloc: Global,
         port: &mut P,
-        routes: &Routes,
-        hooks: &H,
+        channels: Channels<'_, H>,
+        signing: Option<Signing<'_>>,
         text: &str,
     ) -> Result<(), Cause>
-        ensures { AnswersText (around S.remaining S.contents P.step H.PresenceHooks hooks.now)
-            routes.now text.now self.old self.new port.old port.new result }
+        ensures { AnswersText (around S.remaining S.contents P.step H.PresenceHooks channels.entry.hooks.now)
+            signing.entry channels.entry.routes.now text.now self.old self.new port.old port.new result }
     {
-        let channels = Channels { routes, hooks };
         let pid = self.session.pid();
-        match self.run(alloc, port, channels, text) {
+        match self.run_meant(alloc, port, channels, signing, text) {
             Ok(texts) => self.send(alloc, pid, texts),
             Err(fault) => Err(Cause::Fault(fault)),
         }
@@ -331,25 +367,26 @@ impl<S: Read + Write + Drop, K: MaskKeys + Drop> Connection<S, K> {
         port: &mut P,
         routes: &Routes,
         hooks: &H,
-        now: u64,
+        now: Moment<'_>,
         heard: &Heard,
     ) -> Result<(), Cause>
         ensures { Responds (around S.remaining S.contents P.step H.PresenceHooks hooks.now)
-            routes.now now heard.now self.old self.new port.old port.new result }
+            routes.now now.entry heard.now self.old self.new port.old port.new result }
     {
         match heard {
             Heard::Text(words) => {
-                self.heard = now;
+                self.heard = now.milliseconds;
                 self.pinged = false;
                 self.messages = self.messages.saturating_add(1);
-                self.answer(alloc, port, routes, hooks, words.as_str())
+                let channels = Channels { routes, hooks };
+                self.answer(alloc, port, channels, now.signing, words.as_str())
             }
             Heard::Sign => {
-                self.heard = now;
+                self.heard = now.milliseconds;
                 self.pinged = false;
                 Ok(())
             }
-            Heard::Nothing => self.bear_silence(now),
+            Heard::Nothing => self.bear_silence(now.milliseconds),
             Heard::Ends(cause) => Err(*cause),
         }
     }
@@ -448,14 +485,32 @@ impl<S: Read + Write + Drop, K: MaskKeys + Drop> Connection<S, K> {
         port: &mut P,
         routes: &Routes,
         hooks: &H,
-        now: u64,
+        now: Moment<'_>,
     ) -> Result<bool, Cause>
         ensures { Serves (around S.remaining S.contents P.step H.PresenceHooks hooks.now)
-            routes.now now self.old self.new port.old port.new result }
+            routes.now now.entry self.old self.new port.old port.new result }
     {
         let heard = hear(&mut self.socket);
         let first = self.respond(alloc, port, routes, hooks, now, &heard);
         self.go_on(alloc, port, hooks, heard.is_message(), first)
+    }
+
+    // Does so where its client may go on.
+    fn serve_if<P: Port, H: PresenceHooks>(
+        &mut self,
+        alloc: Global,
+        port: &mut P,
+        routes: &Routes,
+        hooks: &H,
+        now: Moment<'_>,
+    ) -> Result<bool, Cause>
+        ensures { ServesIf (around S.remaining S.contents P.step H.PresenceHooks hooks.now)
+            (leave now.entry.signing self.old.grant) routes.now now.entry self.old self.new port.old port.new result }
+    {
+        match self.leave(now.signing) {
+            Ok(()) => self.serve(alloc, port, routes, hooks, now),
+            Err(cause) => Err(cause),
+        }
     }
 
     // Sends the close frame of a cause, if it has one.
@@ -496,12 +551,12 @@ impl<S: Read + Write + Drop, K: MaskKeys + Drop> Connection<S, K> {
         port: &mut P,
         routes: &Routes,
         hooks: &H,
-        now: u64,
+        now: Moment<'_>,
     ) -> Progress
         ensures { TakesTurn (around S.remaining S.contents P.step H.PresenceHooks hooks.now)
-            routes.now now self.old self.new port.old port.new result }
+            routes.now now.entry self.old self.new port.old port.new result }
     {
-        match self.serve(alloc, port, routes, hooks, now) {
+        match self.serve_if(alloc, port, routes, hooks, now) {
             Ok(more) => progress_of(more),
             Err(cause) => {
                 self.close(cause);
@@ -516,16 +571,19 @@ impl<S: Read + Write + Drop, K: MaskKeys + Drop> Connection<S, K> {
     ///
     /// One that was silent for `PING_SILENCE` is sent a ping, once. A connection that ends is told its close code and reads
     /// no more. Its session's end is asked for in that turn and in each later one, until it is accepted.
+    ///
+    /// Where clients sign in, a connection ends from the second on at which its client's token does, before anything is
+    /// read, and one whose client isn't signed in ends at once.
     pub fn turn<P: Port, H: PresenceHooks>(
         &mut self,
         alloc: Global,
         port: &mut P,
         routes: &Routes,
         hooks: &H,
-        now: u64,
+        now: Moment<'_>,
     ) -> Progress
         ensures { Turns (around S.remaining S.contents P.step H.PresenceHooks hooks.now)
-            self.old.stage routes.now now self.old self.new port.old port.new result }
+            self.old.stage routes.now now.entry self.old self.new port.old port.new result }
     {
         match self.stage {
             Stage::Open => self.turn_open(alloc, port, routes, hooks, now),

@@ -59,6 +59,8 @@ pub record IsHeadOf (head : List ℕ) (spans : List HeaderSpan) (found : Request
       ≡ header_value (fields_at head spans found) (codes "Origin")
   pub protocols : option_map (λ (v : Bor (List ℕ)). v.now) r.protocols
       ≡ header_value (fields_at head spans found) (codes "Sec-WebSocket-Protocol")
+  pub authorization : option_map (λ (v : Bor (List ℕ)). v.now) r.authorization
+      ≡ header_value (fields_at head spans found) (codes "Authorization")
   pub accept : IsAcceptOf (key_at head spans found) r.accept
   pub asking : IfSome r.accept (λ key. IsAsking head)
   pub bytes : r.bytes ≡ found.len

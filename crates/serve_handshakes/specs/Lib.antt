@@ -1,3 +1,4 @@
+pub mod Answering
 pub mod Answers
 pub mod Clients
 pub mod Fields
@@ -8,3 +9,5 @@ pub mod Addresses
 pub mod Greeting
 pub mod Guests
 pub mod Seating
+pub mod Shown
+pub mod SigningIn

@@ -4,6 +4,7 @@ ghost use Rattle.serve_handshakes.specs.Answers.{answer_in, behind_host, has_wor
 
 use crate::fields::same_but_for_case;
 use crate::head::Request;
+use crate::unsigned::Unsigned;
 
 /// What a request gets.
 #[derive(Clone, Copy, PartialEq, Eq, Debug)]
@@ -43,6 +44,8 @@ pub enum Answer {
     Crowded,
     /// The same, and clients of its address come too fast.
     Hasty,
+    /// The same, and it isn't signed in where clients have to be.
+    Unauthorized(Unsigned),
 }
 
 /// What is asked for at a port.

@@ -31,6 +31,7 @@ pub struct Request<'a> {
     pub protocols: Option<&'a [u8]>,
     /// How many bytes its head has.
     pub bytes: usize,
+    pub authorization: Option<&'a [u8]>,
 }
 
 /// What bytes of a client are.
@@ -112,6 +113,7 @@ fn request_in<'a>(head: &'a [u8], found: &RequestSpans, spans: &[HeaderSpan]) ->
         origin: field(head, fields, b"Origin"),
         protocols: field(head, fields, b"Sec-WebSocket-Protocol"),
         bytes: found.len,
+        authorization: field(head, fields, b"Authorization"),
     }
 }
 

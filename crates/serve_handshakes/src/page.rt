@@ -43,15 +43,27 @@ pub const PAGE: &str = r##"<!doctype html>
 //     ./presence_node serve
 //     http://127.0.0.1:4000/
 // It connects to where it came from. As a file it connects to 127.0.0.1, at port 4000 or the one that ?port= says.
-// ?name=ann&room=lobby joins at once.
+// ?name=ann&room=lobby joins at once, and so does ?token=, by which it signs in as phoenix.js does by its authToken.
 const asked = new URLSearchParams(location.search);
 const scheme = location.protocol === "https:" ? "wss" : "ws";
 const place = location.host || "127.0.0.1:" + (asked.get("port") || "4000");
 const show = id => document.getElementById(id);
 const MOST_LINES = 200;
-// What the server means where it closes the connection in place of a refusal.
+// What the server means where it closes the connection in place of a refusal, and where a token has ended.
 const REFUSALS = { 1008: "no such room or name is taken (1008)", 1009: "that is too long (1009)" };
+const UNAUTHORIZED = 3000;
+const token = asked.get("token") || undefined;
 let name, presence, room, began;
+
+// Under which name a token lets one be seen, where it can be read.
+function subject(token) {
+  try {
+    const claims = atob(token.split(".")[1].replaceAll("-", "+").replaceAll("_", "/"));
+    return JSON.parse(new TextDecoder().decode(Uint8Array.from(claims, byte => byte.charCodeAt(0)))).sub;
+  } catch {
+    return "";
+  }
+}
 
 // What another client says may be anything: only texts are shown, and no more of one than a few lines take.
 const text = (value, most = 200) => typeof value === "string" ? value.slice(0, most) : "";
@@ -128,7 +140,7 @@ function lead_back(why) {
 const STATES = {
   joining: () => {},
   joined: () => show("state").replaceChildren("You are ", own(name), "."),
-  connecting: ({ code, reason, wait }) =>
+  connecting: ({ code, reason, wait }) => code === UNAUTHORIZED ? lead_back("The token has ended.") :
     show("state").textContent = `No connection (${text(reason) || code}). Next try in ${(wait / 1000).toFixed(1)} s.`,
   refused: ({ code, reason }) => lead_back(`Refused: ${REFUSALS[code] ?? text(reason)}.`),
   left: ({ reason }) => reason && lead_back(`The server has ended this: ${text(reason)}.`),
@@ -148,7 +160,7 @@ function enter(asName, inRoom) {
   show("enter").hidden = true;
   show("inside").hidden = false;
   show("words").focus();
-  presence = new Presence(`${scheme}://${place}/socket`);
+  presence = new Presence(`${scheme}://${place}/socket`, { token: () => token });
   room = presence.join("room:" + inRoom, name, meta());
   room.onState((state, why) => STATES[state](why));
   room.onShout(hear);
@@ -174,7 +186,8 @@ show("say").onsubmit = event => {
   });
 };
 show("leave").onclick = () => lead_back("You left.");
-if (asked.get("name")) enter(asked.get("name"), asked.get("room") || "lobby");
+const first = asked.get("name") || (token && text(subject(token)));
+if (first) enter(first, asked.get("room") || "lobby");
 </script>
 </html>
 "##;

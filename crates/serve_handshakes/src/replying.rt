@@ -1,13 +1,14 @@
 //! What is sent for an answer.
 ghost use Rattle.std.specs.Prelude.{◌≡◌, IfOk, IfSome};
 ghost use Rattle.serve_handshakes.specs.Heads.{HasRequest};
-ghost use Rattle.serve_handshakes.specs.Replies.{IsPlainReply, IsReplyTo, IsTextReply, Says, kind_in, status_in};
+ghost use Rattle.serve_handshakes.specs.Replies.{IsPlainReply, IsReplyTo, IsTextReply, Says, kind_in, status_in, unsigned_text};
 
 use crate::answer::Answer;
 use crate::head::Request;
 use crate::page::PAGE;
 use crate::reply::Reply;
 use crate::script::SCRIPT;
+use crate::unsigned::Unsigned;
 use crate::writing::{METRICS_KIND, PAGE_KIND, SCRIPT_KIND, TEXT_KIND, bare_reply, opening, plain_reply};
 use std::alloc::{AllocError, Global};
 
@@ -21,6 +22,7 @@ fn status_of(answer: Answer) -> &'static str
         Answer::Script => "200 OK\r\naccess-control-allow-origin: *",
         Answer::Options => "204 No Content\r\nallow: GET, HEAD, OPTIONS",
         Answer::BadRequest | Answer::NoHost => "400 Bad Request",
+        Answer::Unauthorized(_) => "401 Unauthorized\r\nwww-authenticate: Bearer",
         Answer::Forbidden => "403 Forbidden",
         Answer::NotFound | Answer::Elsewhere => "404 Not Found",
         Answer::NotAllowed => "405 Method Not Allowed\r\nallow: GET, HEAD, OPTIONS",
@@ -44,6 +46,21 @@ fn kind_of(answer: Answer) -> &'static str
     }
 }
 
+// What a client is told that isn't signed in.
+fn unsigned_text(why: Unsigned) -> &'static str
+    ensures { result.now ≡ unsigned_text why }
+{
+    match why {
+        Unsigned::NoToken => "no token is shown\n",
+        Unsigned::Malformed => "this is no token\n",
+        Unsigned::OtherAlgorithm => "the token is not signed by HS256 alone\n",
+        Unsigned::BadSignature => "the token is signed by none of this server's keys\n",
+        Unsigned::BadClaims => "the token's claims are not what they may be\n",
+        Unsigned::TooEarly => "the token is not valid yet\n",
+        Unsigned::Expired => "the token has expired\n",
+    }
+}
+
 // What an answer without a WebSocket says.
 fn body_of(answer: Answer, metrics: &str) -> &str
     ensures { Says metrics.now answer result.now }
@@ -64,6 +81,7 @@ fn body_of(answer: Answer, metrics: &str) -> &str
         Answer::Full => "no place is free\n",
         Answer::Crowded => "no further client of this address is taken\n",
         Answer::Hasty => "clients of this address come too fast\n",
+        Answer::Unauthorized(why) => unsigned_text(why),
         Answer::NotFound | Answer::Options | Answer::Socket(_) => {
             "here are /, /health and /metrics\n"
         }

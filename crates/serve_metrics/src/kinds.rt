@@ -26,6 +26,7 @@ pub(crate) struct Answers {
     full: Count,
     crowded: Count,
     hasty: Count,
+    unauthorized: Count,
 }
 
 impl Answers {
@@ -49,6 +50,7 @@ impl Answers {
             full: Count::new(),
             crowded: Count::new(),
             hasty: Count::new(),
+            unauthorized: Count::new(),
         }
     }
 
@@ -73,6 +75,7 @@ impl Answers {
             Answer::Full => &self.full,
             Answer::Crowded => &self.crowded,
             Answer::Hasty => &self.hasty,
+            Answer::Unauthorized(_) => &self.unauthorized,
         }
     }
 
@@ -96,6 +99,7 @@ impl Answers {
             full: self.full.get(),
             crowded: self.crowded.get(),
             hasty: self.hasty.get(),
+            unauthorized: self.unauthorized.get(),
         }
     }
 }
@@ -109,6 +113,7 @@ pub(crate) struct Ends {
     policy: Count,
     size: Count,
     error: Count,
+    unauthorized: Count,
     client: Count,
     stream: Count,
 }
@@ -122,6 +127,7 @@ impl Ends {
             policy: Count::new(),
             size: Count::new(),
             error: Count::new(),
+            unauthorized: Count::new(),
             client: Count::new(),
             stream: Count::new(),
         }
@@ -136,6 +142,7 @@ impl Ends {
             Ended::Policy => &self.policy,
             Ended::Size => &self.size,
             Ended::Error => &self.error,
+            Ended::Unauthorized => &self.unauthorized,
             Ended::Client => &self.client,
             Ended::Stream => &self.stream,
         }
@@ -149,6 +156,7 @@ impl Ends {
             policy: self.policy.get(),
             size: self.size.get(),
             error: self.error.get(),
+            unauthorized: self.unauthorized.get(),
             client: self.client.get(),
             stream: self.stream.get(),
         }

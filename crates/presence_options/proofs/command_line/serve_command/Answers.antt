@@ -10,4 +10,6 @@ returns c =
     let three = c.in_ok-arg-3.ensures.shape c.match_joins_flag.ensures.local ∙ ap₂ with_rule two c.match_joins_flag.ensures.rule in
     let four = c.in_ok-arg-4.ensures.shape c.event_option.ensures.local ∙ ap₂ with_rule three c.event_option.ensures.rule in
     let five = c.in_ok-arg-5.ensures.shape c.answered_option.ensures.local ∙ ap₂ with_rule four c.answered_option.ensures.rule in
-    IfOk-weaker c.arg-6.result _ _ (λ r a. a.shape c.to_others_option.ensures.local ∙ ap₂ with_rule five c.to_others_option.ensures.rule) c.arg-6.ensures
+    let six = c.in_ok-arg-6.ensures.shape c.to_others_option.ensures.local ∙ ap₂ with_rule five c.to_others_option.ensures.rule in
+    let seven = c.in_ok-arg-7.ensures.shape c.token_keys_option.ensures.local ∙ ap₂ with_rule six c.token_keys_option.ensures.rule in
+    IfOk-weaker c.arg-8.result _ _ (λ r a. a.shape c.link_keys_option.ensures.local ∙ ap₂ with_rule seven c.link_keys_option.ensures.rule) c.arg-8.ensures
