@@ -18,3 +18,4 @@ pub mod CutShort
 pub mod PartFacts
 pub mod PartRows
 pub mod PickedLemmas
+pub mod Passing

@@ -23,7 +23,6 @@ pub mod laws;
 mod members;
 mod metas;
 mod mirror;
-mod mixed;
 mod order;
 mod presences;
 mod refs;
