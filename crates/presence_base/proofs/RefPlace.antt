@@ -1,5 +1,5 @@
 -- The text of a meta round the place of the references.
-use Rattle.std.proofs.Common.{◌≡◌, ◌∙◌, ap, arith, sym, refl, subst, ℕ, suc, ◌+◌, ◌-◌, ◌<◌, ◌≤◌, nat_le, List, [], ◌∷◌, ◌++◌, length, get_or, map, append_assoc, Bool, true, false, not, ◌&&◌, ◌||◌, if◌then◌else◌, IsTrue, Option, Some, None, slice_get, codes, string_bytes, String}
+use Rattle.std.proofs.Common.{◌≡◌, ◌∙◌, ap, arith, sym, refl, subst, ℕ, suc, ◌+◌, ◌-◌, ◌<◌, ◌≤◌, lit<, nat_le, List, [], ◌∷◌, ◌++◌, length, take, drop, get_or, map, append_assoc, Bool, true, false, not, ◌&&◌, ◌||◌, if◌then◌else◌, IsTrue, Option, Some, None, slice_get, codes, string_bytes, String}
 use Rattle.std.specs.Global.{Global}
 use Rattle.std.specs.List.{All}
 use Rattle.std.specs.Map.{keys_of}
@@ -7,9 +7,9 @@ use Rattle.std.specs.Ordering.{is_gt, is_lt, match_ordering}
 use Rattle.std.specs.declared.cmp.Ordering.{Ordering}
 use Rattle.std.specs.declared.cmp.Ordering.TheVariants.{Less, Equal, Greater}
 use Rattle.std.specs.Str.{IsCharBoundary}
+use Rattle.std.proofs.lemmas.Bool.{leb-true}
 use Rattle.std.proofs.lemmas.List.{take_at, drop_at, length-append, get_or_at}
 use Rattle.std.proofs.lemmas.Str.{IsCharBoundary-before_ascii}
-use Rattle.json.specs.Print.{quoted}
 use Rattle.serde_json.specs.Data.{Data, null, boolean, number, string, array, object, Members, no_members, member, depth}
 use Rattle.serde_json.specs.View.{view, members_view}
 use Rattle.serde_json.specs.Written.{compact_text, members_text, comma_if, has_float, members_have_float}
@@ -27,11 +27,11 @@ true_false h = cc
 
 -- ---- what was found of members in a map
 
-Entries : Type 0
+abbrev pub Entries : Type 0
 Entries = List (String Global × Value)
 
 -- how `phx_ref` stands to a member's name
-abbrev ref_to : String Global → Ordering
+abbrev pub ref_to : String Global → Ordering
 ref_to n = text_cmp (codes "phx_ref") (string_bytes n)
 
 gt_is : (o : Ordering) → is_gt o ≡ true → o ≡ Greater
@@ -49,7 +49,7 @@ at_first (e ∷ fs) h = not_above (ref_to e.0) (h 0 e.0 (omega (arith))) refl
     not_above Greater f g = true_false f
 
 -- a map that is parted at `phx_ref`
-pub parted : (bs fs : Entries) → All (λ k. is_gt (ref_to k) ≡ true) (keys_of bs) → All (λ k. is_gt (ref_to k) ≡ false) (keys_of fs)
+parted : (bs fs : Entries) → All (λ k. is_gt (ref_to k) ≡ true) (keys_of bs) → All (λ k. is_gt (ref_to k) ≡ false) (keys_of fs)
     → (members_before (members_view (bs ++ fs)) ≡ members_view bs) × (members_from (members_view (bs ++ fs)) ≡ members_view fs)
 parted [] fs h i = at_first fs i
 parted (e ∷ bs) fs h i =
@@ -69,24 +69,24 @@ none_behind (x ∷ fs) l = absurd (l (omega arith))
 -- the members, not closed yet
 unfoldable pub members_open : Bool → Members → List ℕ
 members_open later no_members = []
-members_open later (member k d ms) = comma_if later ++ (quoted k ++ 58 ∷ (compact_text d ++ members_open true ms))
+members_open later (member k d ms) = comma_if later ++ (compact_text (string k) ++ 58 ∷ (compact_text d ++ members_open true ms))
 
 -- whether something stands before what follows
 unfoldable pub after : Bool → Members → Bool
 after later no_members = later
 after later (member k d ms) = true
 
-pub over_member : (later : Bool) (k : List ℕ) (d : Data) (x y : List ℕ) → comma_if later ++ (quoted k ++ 58 ∷ (compact_text d ++ (x ++ y))) ≡ (comma_if later ++ (quoted k ++ 58 ∷ (compact_text d ++ x))) ++ y
+pub over_member : (later : Bool) (k : List ℕ) (d : Data) (x y : List ℕ) → comma_if later ++ (compact_text (string k) ++ 58 ∷ (compact_text d ++ (x ++ y))) ≡ (comma_if later ++ (compact_text (string k) ++ 58 ∷ (compact_text d ++ x))) ++ y
 over_member later k d x y =
-    ap (λ z. comma_if later ++ (quoted k ++ 58 ∷ z)) (sym (append_assoc (compact_text d) x y))
-    ∙ ap (λ z. comma_if later ++ z) (sym (append_assoc (quoted k) (58 ∷ (compact_text d ++ x)) y))
-    ∙ sym (append_assoc (comma_if later) (quoted k ++ 58 ∷ (compact_text d ++ x)) y)
+    ap (λ z. comma_if later ++ (compact_text (string k) ++ 58 ∷ z)) (sym (append_assoc (compact_text d) x y))
+    ∙ ap (λ z. comma_if later ++ z) (sym (append_assoc (compact_text (string k)) (58 ∷ (compact_text d ++ x)) y))
+    ∙ sym (append_assoc (comma_if later) (compact_text (string k) ++ 58 ∷ (compact_text d ++ x)) y)
 
 closed : (later : Bool) (ms : Members) → members_text later ms ≡ members_open later ms ++ 125 ∷ []
 unfolding members_open
 closed later no_members = refl
 closed later (member k d ms) =
-    ap (λ z. comma_if later ++ (quoted k ++ 58 ∷ (compact_text d ++ z))) (closed true ms)
+    ap (λ z. comma_if later ++ (compact_text (string k) ++ 58 ∷ (compact_text d ++ z))) (closed true ms)
     ∙ over_member later k d (members_open true ms) (125 ∷ [])
 
 order_cases : {P : Type 0} (o : Ordering) → (o ≡ Less → P) → (o ≡ Equal → P) → (o ≡ Greater → P) → P
@@ -103,7 +103,7 @@ both_parts later (member l d ms) =
     (λ o. rw o refl)
     (λ o. rw o refl)
     (λ o. rw o
-      (ap (λ z. comma_if later ++ (quoted l ++ 58 ∷ (compact_text d ++ z))) (both_parts true ms ∙ ap (λ b. members_open true (members_before ms) ++ members_text b (members_from ms)) (after_true (members_before ms)))
+      (ap (λ z. comma_if later ++ (compact_text (string l) ++ 58 ∷ (compact_text d ++ z))) (both_parts true ms ∙ ap (λ b. members_open true (members_before ms) ++ members_text b (members_from ms)) (after_true (members_before ms)))
       ∙ over_member later l d (members_open true (members_before ms)) (members_text true (members_from ms))))
   where
     after_true : (ns : Members) → after true ns ≡ true
@@ -173,7 +173,7 @@ is_object (object ms) p h = (ms, refl)
 -- what follows begins with a bracket, a comma or a quote
 begins : (later : Bool) (ms : Members) → (b : ℕ) × (s : List ℕ) × (members_text later ms ≡ b ∷ s) × (b < 128)
 begins later no_members = (125, [], refl, lit< tt)
-begins true (member k d ms) = (44, quoted k ++ 58 ∷ (compact_text d ++ members_text true ms), refl, lit< tt)
+begins true (member k d ms) = (44, compact_text (string k) ++ 58 ∷ (compact_text d ++ members_text true ms), refl, lit< tt)
 begins false (member k d ms) = (34, _, refl, lit< tt)
 
 object_boundary : (ms : Members) (p : ℕ) → ref_place (object ms) ≡ Some p → IsCharBoundary (compact_text (object ms)) p
@@ -196,7 +196,7 @@ or_left : (a b : Bool) → (a || b) ≡ false → (a ≡ false) × (b ≡ false)
 or_left true b h = (cc, cc)
 or_left false b h = (refl, h)
 
-pub before_whole : (ms : Members) → members_have_float ms ≡ false → members_have_float (members_before ms) ≡ false
+before_whole : (ms : Members) → members_have_float ms ≡ false → members_have_float (members_before ms) ≡ false
 before_whole no_members h = refl
 before_whole (member l d ms) h =
     let parts = or_left (has_float d) (members_have_float ms) h in
@@ -205,7 +205,7 @@ before_whole (member l d ms) h =
     (λ o. rw o refl)
     (λ o. rw (o, parts.0) (before_whole ms parts.1))
 
-pub last_of_four : (a b c d : Bool) → IsTrue (a && b && not c && d) → (c ≡ false) × (d ≡ true)
+last_of_four : (a b c d : Bool) → IsTrue (a && b && not c && d) → (c ≡ false) × (d ≡ true)
 last_of_four true true true d h = cc
 last_of_four true true false d h = (refl, h)
 last_of_four true false c d h = cc
@@ -213,6 +213,47 @@ last_of_four false b c d h = cc
 
 pub meta_whole : (d : Data) → IsTrue (is_meta d) → has_float d ≡ false
 meta_whole d h = (last_of_four (is_plain d) (nat_le (depth d) 32) (has_float d) (nat_le (length (compact_text d)) 16384) h).0
+
+-- a place is no further than the longest meta
+pub place_most : (d : Data) (p : ℕ) → IsTrue (is_meta d) → ref_place d ≡ Some p → p ≤ 16384
+place_most d p h f =
+    let it = is_object d p f in
+    let cut = cut_at it.0 p (ap ref_place (sym it.1) ∙ f) in
+    let long : length (compact_text d) ≡ length (cut.front ++ cut.rest) = ap (λ z. length (compact_text z)) it.1 ∙ ap length cut.whole in
+    let most : length (compact_text d) ≤ 16384 = leb-true (length (compact_text d)) 16384 (last_of_four (is_plain d) (nat_le (depth d) 32) (has_float d) (nat_le (length (compact_text d)) 16384) h).1 in
+    omega (arith, long, most, length-append cut.front cut.rest, cut.is_place)
+
+-- ---- what is found of a value
+
+-- the value is an object, whose map was parted at `phx_ref`
+pub record IsParted (v : Value) (es bs fs : Entries) : Type 0 where
+  pub is : view v ≡ object (members_view es)
+  pub parts : es ≡ bs ++ fs
+  pub before : All (λ k. is_gt (ref_to k) ≡ true) (keys_of bs)
+  pub from : All (λ k. is_gt (ref_to k) ≡ false) (keys_of fs)
+
+both_found : (v : Value) (es bs fs : Entries) → IsParted v es bs fs → (members_before (members_view es) ≡ members_view bs) × (members_from (members_view es) ≡ members_view fs)
+both_found v es bs fs p = subst (λ z. (members_before (members_view z) ≡ members_view bs) × (members_from (members_view z) ≡ members_view fs)) (sym p.parts) (parted bs fs p.before p.from)
+
+pub whole_front : (v : Value) (es bs fs : Entries) → IsParted v es bs fs → IsTrue (is_meta (view v)) → members_have_float (members_view bs) ≡ false
+whole_front v es bs fs p h =
+    let whole : members_have_float (members_view es) ≡ false = sym (ap has_float p.is) ∙ meta_whole (view v) h in
+    sym (ap members_have_float (both_found v es bs fs p).0) ∙ before_whole (members_view es) whole
+
+at_place : (ms : Members) (b : Bool) → b ≡ begin_behind (members_from ms) → ref_place (object ms) ≡ (if b then Some (length (compact_text (object (members_before ms))) - 1) else None)
+unfolding ref_place
+at_place ms b h = ap (λ c. if c then Some (length (compact_text (object (members_before ms))) - 1) else None) (sym h)
+
+pub none_found : (v : Value) (es bs fs : Entries) (b : Bool) → IsParted v es bs fs → b ≡ begin_behind (members_view fs) → b ≡ false → None ≡ ref_place (view v)
+none_found v es bs fs b p is f =
+    let both = both_found v es bs fs p in
+    sym (ap ref_place p.is ∙ at_place (members_view es) false (sym f ∙ is ∙ ap begin_behind (sym both.1)))
+
+pub place_found : (v : Value) (es bs fs : Entries) (b : Bool) (n : ℕ) → IsParted v es bs fs → b ≡ begin_behind (members_view fs) → b ≡ true → n ≡ length (compact_text (object (members_view bs))) - 1 → Some n ≡ ref_place (view v)
+place_found v es bs fs b n p is t at =
+    let both = both_found v es bs fs p in
+    ap (λ m. Some m) (at ∙ ap (λ ms. length (compact_text (object ms)) - 1) (sym both.0))
+    ∙ sym (ap ref_place p.is ∙ at_place (members_view es) true (sym t ∙ is ∙ ap begin_behind (sym both.1)))
 
 -- ---- metas
 

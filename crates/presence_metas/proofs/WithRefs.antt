@@ -14,7 +14,7 @@ use Rattle.presence_base.specs.declared.row.Row.{Row}
 use Rattle.presence_base.proofs.RefPlace.{members_open, after, over_member, cut_parts, is_object}
 use Rattle.presence_metas.specs.Rows.{members_in, with_prev}
 use Rattle.presence_metas.proofs.Lookups.{order, order_cases, true_false}
-use Rattle.presence_metas.specs.Places.{prev_text, refs_text, refs_first, refs_behind}
+use Rattle.presence_metas.specs.RefTexts.{prev_text, refs_text, refs_first, refs_behind}
 use Rattle.presence_metas.specs.Texts.{row_text}
 
 -- the members with the references among them

@@ -1,6 +1,6 @@
 //! A meta with its references.
 ghost use Rattle.std.specs.Prelude.{◌≡◌, ◌++◌, OnOk, string_bytes};
-ghost use Rattle.presence_metas.specs.Places.{refs_behind, refs_first};
+ghost use Rattle.presence_metas.specs.RefTexts.{refs_behind, refs_first};
 ghost use Rattle.presence_metas.specs.Texts.{row_text};
 
 use crate::refs::push_refs;
