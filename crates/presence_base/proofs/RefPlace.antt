@@ -1,9 +1,9 @@
 -- The text of a meta round the place of the references.
-use Rattle.std.proofs.Common.{◌≡◌, ◌∙◌, ap, arith, sym, refl, subst, ℕ, suc, ◌+◌, ◌-◌, ◌<◌, ◌≤◌, lit<, nat_le, List, [], ◌∷◌, ◌++◌, length, take, drop, get_or, map, append_assoc, Bool, true, false, not, ◌&&◌, ◌||◌, if◌then◌else◌, IsTrue, Option, Some, None, slice_get, codes, string_bytes, String}
+use Rattle.std.proofs.Common.{◌≡◌, ◌∙◌, ap, arith, sym, refl, subst, ℕ, suc, ◌-◌, ◌<◌, ◌≤◌, lit<, nat_le, List, [], ◌∷◌, ◌++◌, length, take, drop, get_or, append_assoc, Bool, true, false, not, ◌&&◌, ◌||◌, if◌then◌else◌, IsTrue, Option, Some, None, slice_get, codes, string_bytes, String}
 use Rattle.std.specs.Global.{Global}
 use Rattle.std.specs.List.{All}
 use Rattle.std.specs.Map.{keys_of}
-use Rattle.std.specs.Ordering.{is_gt, is_lt, match_ordering}
+use Rattle.std.specs.Ordering.{is_gt, is_lt}
 use Rattle.std.specs.declared.cmp.Ordering.{Ordering}
 use Rattle.std.specs.declared.cmp.Ordering.TheVariants.{Less, Equal, Greater}
 use Rattle.std.specs.Str.{IsCharBoundary}
@@ -103,8 +103,8 @@ both_parts later (member l d ms) =
     (λ o. rw o refl)
     (λ o. rw o refl)
     (λ o. rw o
-      (ap (λ z. comma_if later ++ (compact_text (string l) ++ 58 ∷ (compact_text d ++ z))) (both_parts true ms ∙ ap (λ b. members_open true (members_before ms) ++ members_text b (members_from ms)) (after_true (members_before ms)))
-      ∙ over_member later l d (members_open true (members_before ms)) (members_text true (members_from ms))))
+    (ap (λ z. comma_if later ++ (compact_text (string l) ++ 58 ∷ (compact_text d ++ z))) (both_parts true ms ∙ ap (λ b. members_open true (members_before ms) ++ members_text b (members_from ms)) (after_true (members_before ms)))
+    ∙ over_member later l d (members_open true (members_before ms)) (members_text true (members_from ms))))
   where
     after_true : (ns : Members) → after true ns ≡ true
     after_true no_members = refl

@@ -1,5 +1,5 @@
 -- Where the references of a row go in the compact text of its meta, whose members are written in order of their names.
-use Rattle.std.specs.Prelude.{ℕ, ◌-◌, List, length, Bool, true, if◌then◌else◌, Option, Some, None, codes}
+use Rattle.std.specs.Prelude.{ℕ, ◌-◌, length, Bool, true, if◌then◌else◌, Option, Some, None, codes}
 use Rattle.std.specs.Ordering.{match_ordering, is_lt}
 use Rattle.serde_json.specs.Data.{Data, object, Members, no_members, member}
 use Rattle.serde_json.specs.Written.{compact_text}

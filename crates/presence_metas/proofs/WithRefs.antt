@@ -81,14 +81,14 @@ both_parts d prev later (member l e ms) h =
     order_cases (text_cmp (codes "phx_ref") l)
     (λ o. from_here d prev later (member l e ms) (rw o refl) (rw o refl) h)
     (λ o. from_here d prev later (member l e ms) (rw o refl) (rw o refl) h)
-    (λ o. 
-      let next : members_before (member l e ms) ≡ member l e (members_before ms) = rw o refl in
-      let same : members_from (member l e ms) ≡ members_from ms = rw o refl in
-      ap (members_text later) (before_both d prev l e ms o)
-      ∙ ap (λ z. comma_if later ++ (quoted l ++ 58 ∷ (compact_text e ++ z))) (both_parts d prev true ms (ap begin_behind (sym same) ∙ h) ∙ ap (λ b. members_open true (members_before ms) ++ (comma_if b ++ (refs_text d prev ++ members_text true (members_from ms)))) (after_true (members_before ms)))
-      ∙ over_member later l e (members_open true (members_before ms)) (44 ∷ (refs_text d prev ++ members_text true (members_from ms)))
-      ∙ ap (λ fs. in_parts d prev later (member l e (members_before ms)) fs) (sym same)
-      ∙ ap (λ bs. in_parts d prev later bs (members_from (member l e ms))) (sym next))
+    (λ o.
+    let next : members_before (member l e ms) ≡ member l e (members_before ms) = rw o refl in
+    let same : members_from (member l e ms) ≡ members_from ms = rw o refl in
+    ap (members_text later) (before_both d prev l e ms o)
+    ∙ ap (λ z. comma_if later ++ (quoted l ++ 58 ∷ (compact_text e ++ z))) (both_parts d prev true ms (ap begin_behind (sym same) ∙ h) ∙ ap (λ b. members_open true (members_before ms) ++ (comma_if b ++ (refs_text d prev ++ members_text true (members_from ms)))) (after_true (members_before ms)))
+    ∙ over_member later l e (members_open true (members_before ms)) (44 ∷ (refs_text d prev ++ members_text true (members_from ms)))
+    ∙ ap (λ fs. in_parts d prev later (member l e (members_before ms)) fs) (sym same)
+    ∙ ap (λ bs. in_parts d prev later bs (members_from (member l e ms))) (sym next))
   where
     after_true : (bs : Members) → after true bs ≡ true
     after_true no_members = refl

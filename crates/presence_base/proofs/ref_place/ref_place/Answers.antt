@@ -1,7 +1,7 @@
 use Rattle.std.proofs.Common.{ap, sym, ◌∙◌, ◌≤◌, arith}
 use Rattle.serde_json.specs.View.{view}
 use Rattle.serde_json.proofs.Views.{view-Object}
-use Rattle.presence_base.proofs.RefPlace.{IsParted, whole_front, none_found, place_found, place_most}
+use Rattle.presence_base.proofs.RefPlace.{whole_front, none_found, place_found, place_most}
 use Rattle.presence_base.proofs.ref_place.ref_place.Goals as goal
 
 pub returns-then-not-begin_behind : goal.returns-then-not-begin_behind
