@@ -1,5 +1,5 @@
 -- The text of a meta with the references of its row, round which the text of the meta goes.
-use Rattle.std.proofs.Common.{◌≡◌, ℕ, List, [], ◌∷◌, ◌++◌, length, Bool, true, false, if◌then◌else◌, Option, Some, None, codes, refl, ap, sym, subst, ◌∙◌, append_assoc}
+use Rattle.std.proofs.Common.{◌≡◌, ℕ, List, [], ◌∷◌, ◌++◌, length, Bool, true, false, if◌then◌else◌, Option, Some, None, Result, Ok, Err, OnOk, is_ok, codes, refl, ap, sym, subst, ◌∙◌, append_assoc}
 use Rattle.std.specs.declared.cmp.Ordering.TheVariants.{Less, Greater}
 use Rattle.std.specs.Ordering.{is_lt, ordering_reverse}
 use Rattle.std.specs.Str.{bytes_eq}
@@ -133,8 +133,18 @@ first_written d r front rest h e opens =
     subst (λ (m : Data). refs_first d r.prev rest ≡ compact_text (object (with_refs d r.prev (members_in m)))) (sym it.1)
     (object_first d r.prev it.0 front rest (h ∙ ap ref_place it.1) (e ∙ ap compact_text it.1) opens)
 
-pub behind_written : (d : Dot) (r : Row) (front rest : List ℕ) → Some (length front) ≡ ref_place r.meta → front ++ rest ≡ compact_text r.meta → bytes_eq front (codes "{") ≡ false → refs_behind d r.prev front ++ rest ≡ row_text (d, r)
+behind_written : (d : Dot) (r : Row) (front rest : List ℕ) → Some (length front) ≡ ref_place r.meta → front ++ rest ≡ compact_text r.meta → bytes_eq front (codes "{") ≡ false → refs_behind d r.prev front ++ rest ≡ row_text (d, r)
 behind_written d r front rest h e opens =
     let it = is_object r.meta (length front) (sym h) in
     subst (λ (m : Data). refs_behind d r.prev front ++ rest ≡ compact_text (object (with_refs d r.prev (members_in m)))) (sym it.1)
     (object_behind d r.prev it.0 front rest (h ∙ ap ref_place it.1) (e ∙ ap compact_text it.1) opens)
+
+-- where what follows was written too, all of it was
+pub behind_pushed : {A E : Type 0} (result : Result A E) (d : Dot) (r : Row) (text mid new front rest : List ℕ) → Some (length front) ≡ ref_place r.meta → front ++ rest ≡ compact_text r.meta → bytes_eq front (codes "{") ≡ false → mid ≡ text ++ refs_behind d r.prev front
+    → new ≡ (if is_ok result then mid ++ rest else mid) → OnOk result (new ≡ text ++ row_text (d, r))
+behind_pushed (Ok x) d r text mid new front rest h e opens first second =
+    second
+    ∙ ap (λ z. z ++ rest) first
+    ∙ append_assoc text (refs_behind d r.prev front) rest
+    ∙ ap (λ z. text ++ z) (behind_written d r front rest h e opens)
+behind_pushed (Err x) d r text mid new front rest h e opens first second = tt

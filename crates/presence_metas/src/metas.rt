@@ -55,7 +55,7 @@ fn push_tracked(alloc: Global, text: &mut String, dot: &Dot, row: &Row) -> Resul
 }
 
 // Writes a row's meta with its references: between the two parts of its text, where they go to one place there.
-#[tactic(auto, using(crate::proofs::WithRefs::first_written, crate::proofs::WithRefs::behind_written))]
+#[tactic(auto, using(crate::proofs::WithRefs::first_written))]
 pub(crate) fn push_meta(
     alloc: Global,
     text: &mut String,
