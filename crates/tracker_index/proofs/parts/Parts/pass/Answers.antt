@@ -13,5 +13,5 @@ returns-in_err-feed-clause-kept c =
 pub returns-clause-kept : goal.returns-clause-kept
 returns-clause-kept c =
     let p = c.args.self.now in
-    passed c.args.entry.now p (record { known = p.known; shown = p.shown; feeds = c.feed.new.feeds; untold = p.untold; stage = Done }) ?
-    c.requires.stage c.requires.rows ? ? c.in_ok-feed.ensures.ok refl refl refl refl
+    passed c.args.entry.now p (record { known = p.known; shown = p.shown; feeds = c.feed.new.feeds; untold = p.untold; stage = Done }) (record { joins = c.new.result; leaves = c.new-2.result })
+    c.requires.stage c.requires.rows c.new.ensures.items c.new-2.ensures.items c.in_ok-feed.ensures.ok refl refl refl refl
