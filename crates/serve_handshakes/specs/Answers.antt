@@ -3,7 +3,7 @@ use Rattle.std.specs.Prelude.{ℕ, Bool, true, false, cond, ◌||◌, ◌&&◌, 
 use denote.Ref.{Bor}
 use Rattle.websocket.specs.Headers.{eq_ignore_case}
 use Rattle.serve_handshakes.specs.declared.answer.Answer.{Answer}
-use Rattle.serve_handshakes.specs.declared.answer.Answer.TheVariants.{Socket, Page, Health, Metrics, BadRequest, Forbidden, NotFound, NotAllowed, Options, NoHost, LongBody, Elsewhere}
+use Rattle.serve_handshakes.specs.declared.answer.Answer.TheVariants.{Socket, Page, Script, Health, Metrics, BadRequest, Forbidden, NotFound, NotAllowed, Options, NoHost, LongBody, Elsewhere}
 use Rattle.serve_handshakes.specs.declared.answer.Site.{Site}
 use Rattle.serve_handshakes.specs.declared.head.Request.{Request}
 
@@ -68,8 +68,9 @@ socket_in site r =
 abbrev pub page_in : Site → List ℕ → Answer
 page_in site path =
     cond (bytes_eq path (codes "/")) (cond site.has_clients Page Elsewhere)
+    (cond (bytes_eq path (codes "/presence.js")) (cond site.has_clients Script Elsewhere)
     (cond (bytes_eq path (codes "/health")) Health
-    (cond (bytes_eq path (codes "/metrics")) (cond site.has_metrics Metrics Elsewhere) NotFound))
+    (cond (bytes_eq path (codes "/metrics")) (cond site.has_metrics Metrics Elsewhere) NotFound)))
 
 -- what a request gets that asks for no WebSocket: a HEAD as a GET (RFC 9110, section 9.3.2)
 abbrev pub plain_in : Site → Request → Answer

@@ -2,14 +2,16 @@
 use Rattle.std.specs.Prelude.{◌≡◌, ℕ, Bool, false, cond, not, List, [], bytes_eq, codes, Some}
 use Rattle.serve_handshakes.specs.Heads.{Opens, bare_bytes, plain_bytes}
 use Rattle.serve_handshakes.specs.declared.answer.Answer.{Answer}
-use Rattle.serve_handshakes.specs.declared.answer.Answer.TheVariants.{Socket, Page, Health, Metrics, BadRequest, Forbidden, NotFound, NotAllowed, Options, NoHost, LongHead, LongBody, Elsewhere, Unwell, Full, Crowded, Hasty}
+use Rattle.serve_handshakes.specs.declared.answer.Answer.TheVariants.{Socket, Page, Script, Health, Metrics, BadRequest, Forbidden, NotFound, NotAllowed, Options, NoHost, LongHead, LongBody, Elsewhere, Unwell, Full, Crowded, Hasty}
 use Rattle.serve_handshakes.specs.declared.head.Request.{Request}
 use Rattle.serve_handshakes.specs.declared.page.TheConstants.{PAGE}
+use Rattle.serve_handshakes.specs.declared.script.TheConstants.{SCRIPT}
 
 -- the status of an answer, with the fields that go with it
 abbrev pub status_in : Answer → List ℕ
 status_in (Socket has_protocol) = codes "101 Switching Protocols"
 status_in Page = codes "200 OK"
+status_in Script = codes "200 OK\r\naccess-control-allow-origin: *"
 status_in Health = codes "200 OK"
 status_in Metrics = codes "200 OK"
 status_in BadRequest = codes "400 Bad Request"
@@ -29,6 +31,7 @@ status_in Hasty = codes "429 Too Many Requests\r\nretry-after: 5"
 -- What stands in the text of an answer: its own words, and of all of them the metrics in that which tells them alone.
 abbrev pub Says : List ℕ → Answer → List ℕ → Type 0
 Says metrics Page body = body ≡ PAGE.now
+Says metrics Script body = body ≡ SCRIPT.now
 Says metrics Metrics body = body ≡ metrics
 Says metrics Health body = body ≡ codes "ok\n"
 Says metrics Unwell body = body ≡ codes "calls fail\n"
@@ -49,6 +52,7 @@ Says metrics (Socket has_protocol) body = body ≡ codes "here are /, /health an
 -- as which kind an answer is told
 abbrev pub kind_in : Answer → List ℕ
 kind_in Page = codes "text/html; charset=utf-8"
+kind_in Script = codes "text/javascript; charset=utf-8"
 kind_in Metrics = codes "text/plain; version=0.0.4; charset=utf-8"
 kind_in answer = codes "text/plain; charset=utf-8"
 

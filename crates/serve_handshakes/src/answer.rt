@@ -12,6 +12,8 @@ pub enum Answer {
     Socket(bool),
     /// The page with a room.
     Page,
+    /// The library for pages.
+    Script,
     /// That the program is there.
     Health,
     /// What the program has counted.
@@ -168,6 +170,8 @@ fn page_at(path: &[u8], site: &Site<'_>) -> Answer
 {
     if path == b"/".as_slice() {
         if_here(site.has_clients, Answer::Page)
+    } else if path == b"/presence.js".as_slice() {
+        if_here(site.has_clients, Answer::Script)
     } else if path == b"/health".as_slice() {
         Answer::Health
     } else if path == b"/metrics".as_slice() {

@@ -25,6 +25,7 @@ mod party;
 mod reply;
 mod replying;
 pub mod request_laws;
+mod script;
 mod seating;
 mod writing;
 
@@ -40,4 +41,5 @@ pub use introduction::MAX_LINE_BYTES;
 pub use pace::{BURST_MICROSECONDS, Pace};
 pub use page::PAGE;
 pub use party::MAX_EMPTY_READS;
+pub use script::SCRIPT;
 pub use seating::{Admission, seated};

@@ -7,7 +7,8 @@ use crate::answer::Answer;
 use crate::head::Request;
 use crate::page::PAGE;
 use crate::reply::Reply;
-use crate::writing::{METRICS_KIND, PAGE_KIND, TEXT_KIND, bare_reply, opening, plain_reply};
+use crate::script::SCRIPT;
+use crate::writing::{METRICS_KIND, PAGE_KIND, SCRIPT_KIND, TEXT_KIND, bare_reply, opening, plain_reply};
 use std::alloc::{AllocError, Global};
 
 // The status of an answer, with the fields that go with it. (A WebSocket's is written with its key.)
@@ -17,6 +18,7 @@ fn status_of(answer: Answer) -> &'static str
     match answer {
         Answer::Socket(_) => "101 Switching Protocols",
         Answer::Page | Answer::Health | Answer::Metrics => "200 OK",
+        Answer::Script => "200 OK\r\naccess-control-allow-origin: *",
         Answer::Options => "204 No Content\r\nallow: GET, HEAD, OPTIONS",
         Answer::BadRequest | Answer::NoHost => "400 Bad Request",
         Answer::Forbidden => "403 Forbidden",
@@ -36,6 +38,7 @@ fn kind_of(answer: Answer) -> &'static str
 {
     match answer {
         Answer::Page => PAGE_KIND,
+        Answer::Script => SCRIPT_KIND,
         Answer::Metrics => METRICS_KIND,
         _ => TEXT_KIND,
     }
@@ -47,6 +50,7 @@ fn body_of(answer: Answer, metrics: &str) -> &str
 {
     match answer {
         Answer::Page => PAGE,
+        Answer::Script => SCRIPT,
         Answer::Metrics => metrics,
         Answer::Health => "ok\n",
         Answer::Unwell => "calls fail\n",

@@ -355,7 +355,7 @@ connections_behind text t = waiting_behind (taken_behind text t) t
 
 unfoldable pub requests_behind : List ℕ → AnswersTold → List ℕ
 requests_behind text a = with_named text REQUESTS (
-    (codes "socket", a.sockets) ∷ (codes "page", a.pages) ∷ (codes "health", a.health)
+    (codes "socket", a.sockets) ∷ (codes "page", a.pages) ∷ (codes "script", a.scripts) ∷ (codes "health", a.health)
     ∷ (codes "metrics", a.metrics) ∷ (codes "bad_request", a.bad_requests) ∷ (codes "forbidden", a.forbidden)
     ∷ (codes "not_found", a.not_found) ∷ (codes "not_allowed", a.not_allowed)
     ∷ (codes "options", a.options) ∷ (codes "no_host", a.no_host) ∷ (codes "long_head", a.long_head)

@@ -10,6 +10,7 @@ use serve_ports::Tally;
 pub(crate) struct Answers {
     sockets: Count,
     pages: Count,
+    scripts: Count,
     health: Count,
     metrics: Count,
     bad_requests: Count,
@@ -32,6 +33,7 @@ impl Answers {
         Answers {
             sockets: Count::new(),
             pages: Count::new(),
+            scripts: Count::new(),
             health: Count::new(),
             metrics: Count::new(),
             bad_requests: Count::new(),
@@ -55,6 +57,7 @@ impl Answers {
         match answer {
             Answer::Socket(_) => &self.sockets,
             Answer::Page => &self.pages,
+            Answer::Script => &self.scripts,
             Answer::Health => &self.health,
             Answer::Metrics => &self.metrics,
             Answer::BadRequest => &self.bad_requests,
@@ -77,6 +80,7 @@ impl Answers {
         AnswersTold {
             sockets: self.sockets.get(),
             pages: self.pages.get(),
+            scripts: self.scripts.get(),
             health: self.health.get(),
             metrics: self.metrics.get(),
             bad_requests: self.bad_requests.get(),

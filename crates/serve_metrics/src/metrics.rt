@@ -64,6 +64,7 @@ fn requests_text(alloc: Global, text: &mut String, answers: &AnswersTold) -> Res
         &[
             ("socket", answers.sockets),
             ("page", answers.pages),
+            ("script", answers.scripts),
             ("health", answers.health),
             ("metrics", answers.metrics),
             ("bad_request", answers.bad_requests),

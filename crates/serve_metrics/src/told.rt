@@ -6,6 +6,7 @@ use serve_ports::Tally;
 pub struct AnswersTold {
     pub sockets: u64,
     pub pages: u64,
+    pub scripts: u64,
     pub health: u64,
     pub metrics: u64,
     pub bad_requests: u64,
