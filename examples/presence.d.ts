@@ -1,6 +1,6 @@
 // What presence.js has. To a page's other scripts `Presence` is a global.
 
-/** What somebody says of himself: a JSON object of at most 16,384 bytes, whose numbers are whole. */
+/** What somebody says of himself: a JSON object of at most 16,384 bytes, whose numbers are whole but with --fractions. */
 export type Meta = { [name: string]: unknown };
 
 /** What is told of a key: a meta for each time that it is there, in the order of coming, and what the server adds. */

@@ -112,7 +112,8 @@ var Presence = (() => {
     // missing in the first has left only if none of them brings him back.
     #begin(state) {
       clearTimeout(this.#missing);
-      this.#people = new Map(Object.entries(state));
+      this.#people = new Map();
+      for (const [key, one] of Object.entries(state)) this.#put(key, one, [], one.metas);
       this.#tell(this.#people.keys());
       this.#missing = setTimeout(() => this.#tell([...this.#known.keys()]), WAIT_FOR_PIECES);
     }

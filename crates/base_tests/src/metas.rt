@@ -64,22 +64,27 @@ fn metas_are_read_from_their_texts(rt: HostRuntime) -> Result<(), Fail> {
     Ok(())
 }
 
-// Whether references go first in the meta's text, and whether they go last.
-fn refs_places(alloc: Global, text: &str) -> Result<Option<(bool, bool)>, Fail> {
-    match meta_of(alloc, text)? {
-        Some(meta) => Ok(Some((meta.takes_refs_first(), meta.takes_refs_last()))),
-        None => Ok(None),
-    }
+// Whether the meta's text is cut so at the place of the references.
+fn is_split(alloc: Global, text: &str, front: &str, rest: &str) -> Result<bool, Fail> {
+    let Some(meta) = meta_of(alloc, text)? else {
+        return Ok(false);
+    };
+    let Some(parts) = meta.split_at_refs() else {
+        return Ok(false);
+    };
+    Ok(parts.0 == front && parts.1 == rest)
 }
 
 #[test]
 fn places_of_references_in_metas(rt: HostRuntime) -> Result<(), Fail> {
     let alloc = rt.alloc();
-    assert!(rt; refs_places(alloc, "{}")? == Some((true, false)));
-    assert!(rt; refs_places(alloc, "{\"q\":1}")? == Some((true, false)));
-    assert!(rt; refs_places(alloc, "{\"a\":1,\"b\":2}")? == Some((false, true)));
-    assert!(rt; refs_places(alloc, "{\"a\":1,\"q\":2}")? == Some((false, false)));
-    assert!(rt; refs_places(alloc, "{\"phx_ref_a\":1}")? == Some((false, false)));
+    assert!(rt; is_split(alloc, "{}", "{", "}")?);
+    assert!(rt; is_split(alloc, "{\"q\":1}", "{", "\"q\":1}")?);
+    assert!(rt; is_split(alloc, "{\"a\":1,\"b\":2}", "{\"a\":1,\"b\":2", "}")?);
+    assert!(rt; is_split(alloc, "{\"q\":[2],\"a\":{}}", "{\"a\":{}", ",\"q\":[2]}")?);
+    assert!(rt; is_split(alloc, "{\"a\":\"é\",\"é\":1}", "{\"a\":\"é\"", ",\"é\":1}")?);
+    let meta = meta_of(alloc, "{\"a\":1,\"phx_ref_a\":2}")?.ok_or("a meta")?;
+    assert!(rt; meta.split_at_refs().is_none());
     Ok(())
 }
 

@@ -1,6 +1,6 @@
 //! The session.
 use crate::joined::JoinedTopics;
-use channel_rules::Topics;
+use channel_rules::{Join, Topics};
 use presence_base::Topic;
 use std::alloc::Global;
 use std::marker::Model;
@@ -39,7 +39,8 @@ impl Model for Session {
 }
 
 impl Session {
-    ghost use Rattle.std.specs.Prelude.{◌≡◌, ◌≤◌, ◌^◌, [], false, None};
+    ghost use Rattle.std.specs.Prelude.{◌≡◌, ◌≤◌, ◌^◌, [], false, None, option_map};
+    ghost use Rattle.channel_rules.specs.InForce.{find, joined_of};
     ghost use Rattle.channel_session.specs.Ending.{topics_named};
 
     /// A session of this number that has joined nothing.
@@ -53,6 +54,20 @@ impl Session {
             topics: Topics::new(alloc),
             cut_short: None,
         }
+    }
+
+    /// Its number.
+    pub fn pid(&self) -> u64
+        ensures { result ≡ self.now.pid }
+    {
+        self.pid
+    }
+
+    /// The present join of a topic.
+    pub fn join_of(&self, topic: &Topic) -> Option<&Join>
+        ensures { option_map (λ s. joined_of (topic.now, s.now)) result ≡ find topic.now self.now.joined }
+    {
+        self.topics.find(topic)
     }
 
     /// Whether a fault has left something behind. Then only `end` acts.

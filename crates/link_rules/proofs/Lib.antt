@@ -1,1 +1,2 @@
 mod GoingOn
+mod KeyTexts

@@ -5,4 +5,6 @@ pub mod Lives
 pub mod Rebirths
 pub mod Hearing
 pub mod Admitting
+pub mod Keying
+pub mod Apart
 pub mod Known

@@ -10,7 +10,7 @@ use Rattle.link_lines.specs.declared.fault.LinkFault.TheVariants as faults
 use Rattle.orswot_core.specs.declared.told.ToldFault.{ToldFault}
 use Rattle.orswot_core.specs.declared.told.ToldFault.TheVariants as tolds
 use Rattle.link_rules.specs.declared.end.LinkEnd.{LinkEnd}
-use Rattle.link_rules.specs.declared.end.LinkEnd.TheVariants.{Fault, Closed, GivenUp, GoesOnLater, Reborn, OwnReplica, OwnName, OtherName, NotAPeer, OtherAddress, Replaced, NotReached, HostNotFound, NoFile, TooMany, Stopped}
+use Rattle.link_rules.specs.declared.end.LinkEnd.TheVariants.{Fault, Closed, GivenUp, GoesOnLater, Reborn, OwnReplica, OwnName, OtherName, NotAPeer, OtherAddress, NoKey, NoNamedKey, Unshown, KeyWanted, OtherHello, NoNonce, Replaced, NotReached, HostNotFound, NoFile, TooMany, Stopped}
 
 -- another name than the one that is wanted is refused, where one is
 abbrev pub met_name : Option (List ℕ) → List ℕ → Result (Unit {0}) LinkEnd
@@ -87,6 +87,12 @@ end_words OwnName = codes "the other node has this node's own name"
 end_words OtherName = codes "the other node has another name than --peer says"
 end_words NotAPeer = codes "no --peer of this node has its name"
 end_words OtherAddress = codes "no --link-from of this node has its address"
+end_words NoKey = codes "the other node shows none of the keys of --link-keys"
+end_words NoNamedKey = codes "the other node shows none of the keys of --link-keys under the name that --peer says"
+end_words Unshown = codes "the other node closed it and showed no key: has it one of --link-keys?"
+end_words KeyWanted = codes "the other node wants a key shown, and this one has no --link-keys"
+end_words OtherHello = codes "the other node's hello names another one than showed a key"
+end_words NoNonce = codes "the system gives no random bytes to show a key by"
 end_words Replaced = codes "a newer link of that node came in"
 end_words NotReached = codes "nobody answers there"
 end_words HostNotFound = codes "no address is found for its host: the name isn't known, or the resolver doesn't answer"

@@ -28,6 +28,18 @@ pub enum LinkEnd {
     NotAPeer,
     /// It came from an address that no `--link-from` has.
     OtherAddress,
+    /// It shows none of this node's keys of links.
+    NoKey,
+    /// It shows none of them under the name that the command line says.
+    NoNamedKey,
+    /// The other end closed it and had shown no key.
+    Unshown,
+    /// The other end wants a key shown, and this node has none of links.
+    KeyWanted,
+    /// The hello names another node than the one that showed a key.
+    OtherHello,
+    /// The system gives no random bytes for a nonce.
+    NoNonce,
     /// A newer link of the same node came in.
     Replaced,
     /// Nobody answers there.

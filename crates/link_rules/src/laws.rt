@@ -4,6 +4,7 @@ ghost use Rattle.link_rules.specs.declared.words.TheConstants.{MAX_LINKS};
 ghost use Rattle.link_rules.specs.declared.hearing.TheConstants.{HEARD_MILLISECONDS};
 ghost use Rattle.link_rules.specs.declared.lives.TheConstants.{MOST_AHEAD};
 ghost use Rattle.link_rules.specs.declared.rebirths.TheConstants.{REBIRTH_MILLISECONDS};
+ghost use Rattle.link_rules.specs.Apart.{CodesAreApart};
 ghost use Rattle.link_rules.specs.Lives.{GoesAbove, GoesOnOnce};
 
 /// How many links that came in there are at most, within which time a node goes on three times at most, and how far above its own
@@ -24,4 +25,10 @@ pub fn goes_on_once()
 /// A node goes on under an incarnation above its own, and above all that it was told of its name.
 pub fn goes_above()
     ensures { GoesAbove }
+{}
+
+/// What an end shows a key by is of that link and of that end alone: of both nonces, of who was dialled, and in a proof of who
+/// dials. So what was made for another link, for another node or by the other end is none.
+pub fn codes_are_apart()
+    ensures { CodesAreApart }
 {}

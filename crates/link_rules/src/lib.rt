@@ -8,6 +8,7 @@
 //! - `specs/Saying`: when it is said that a link is up
 //! - `specs/Lives`: the lives of a node, and which links are of which
 //! - `specs/Hearing`: when a shard is told that a node was heard
+//! - `specs/Keying`: how both ends show that they have a key in common, and `specs/Apart` that a code of one link is none of another
 //! - `specs/Known`: what another node is told that is known of it
 //! - `specs/Rebirths`: how often a node goes on under a higher incarnation
 #![tactic(auto)]
@@ -15,6 +16,7 @@
 mod admitting;
 mod end;
 mod hearing;
+mod keying;
 mod known;
 pub mod laws;
 mod lives;
@@ -28,6 +30,10 @@ mod words;
 pub use admitting::is_admitted;
 pub use end::LinkEnd;
 pub use hearing::{HEARD_MILLISECONDS, is_heard_anew};
+pub use keying::{
+    CODE_BYTES, Challenged, answer_in, answer_line, challenge_in, challenge_line, is_challenge,
+    is_key_wanted, is_proved, names, nonce_of, proof_in, proof_line, wanted_line,
+};
 pub use known::{known_in, known_line};
 pub use lives::{Came, Coming, Course, Life, MOST_AHEAD, is_due};
 pub use meeting::{greeted, is_welcome};

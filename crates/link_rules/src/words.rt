@@ -113,6 +113,16 @@ fn end_words(end: LinkEnd) -> &'static str
         LinkEnd::OtherName => "the other node has another name than --peer says",
         LinkEnd::NotAPeer => "no --peer of this node has its name",
         LinkEnd::OtherAddress => "no --link-from of this node has its address",
+        LinkEnd::NoKey => "the other node shows none of the keys of --link-keys",
+        LinkEnd::NoNamedKey => {
+            "the other node shows none of the keys of --link-keys under the name that --peer says"
+        }
+        LinkEnd::Unshown => {
+            "the other node closed it and showed no key: has it one of --link-keys?"
+        }
+        LinkEnd::KeyWanted => "the other node wants a key shown, and this one has no --link-keys",
+        LinkEnd::OtherHello => "the other node's hello names another one than showed a key",
+        LinkEnd::NoNonce => "the system gives no random bytes to show a key by",
         LinkEnd::Replaced => "a newer link of that node came in",
         LinkEnd::NotReached => "nobody answers there",
         LinkEnd::HostNotFound => {

@@ -13,6 +13,7 @@ use Rattle.orswot_core.specs.contracts.form.Form as Form
 use Rattle.orswot_core.specs.contracts.told.Told as Told
 use Rattle.orswot_core.specs.contracts.told.ToldFault as ToldFault
 use Rattle.delta_range.specs.contracts.delta.Delta as Delta
+use Rattle.hmac_keys.proofs.Crossing.{key_send as secret_send, key_sync as secret_sync}
 use Rattle.link_lines.specs.contracts.fault.LinkFault as LinkFault
 use Rattle.link_lines.specs.contracts.hearer.Hearer as Hearer
 use Rattle.link_lines.specs.contracts.hearer.Telling as Telling
@@ -164,7 +165,7 @@ readers_sync : IsSync (Readers.the_field).row
 readers_sync = search (line_send, fault_send, bytes_send, heap.crosses, sendable) depth 60 fits 20000
 
 pub links_sync : IsSync (Links.the_field).row
-links_sync = search (delta_send, delta_sync, form_sync, waiting_sync, book_send, name_sync, stopping_sync, bell_sync, tallies_sync, log_format_sync, life_send, readers_sync, heap.crosses, sendable) depth 60 fits 20000
+links_sync = search (secret_send, secret_sync, delta_send, delta_sync, form_sync, waiting_sync, book_send, name_sync, stopping_sync, bell_sync, tallies_sync, log_format_sync, life_send, readers_sync, heap.crosses, sendable) depth 60 fits 20000
 
 -- ---- what is given
 

@@ -1,6 +1,7 @@
 //! The threads that dial other nodes, one each.
 ghost use Rattle.std.specs.Prelude.{◌≡◌};
 
+use crate::keyed::{Shown, line_bytes, shows_key};
 use crate::links::{Cuts, Links, Place, Wakes};
 use crate::lives::{given_up, owning};
 use crate::node::Node;
@@ -9,9 +10,11 @@ use crate::serving::{coming_from, end_of};
 use delta_range::Delta;
 use link_lines::{Line, LinkFault};
 use link_pool_port::{PoolLinkPort, bare_beat, fitting_beat};
-use link_rules::{LinkEnd, LinkWarning, MOST_AHEAD, greeted, known_line};
-use link_streams::{LinkStream, time_behind};
-use node_links::{DialFault, End, Exchanged, Link, Peer, Untold, exchange, next_form};
+use link_rules::{LinkEnd, LinkWarning, MOST_AHEAD, greeted, is_key_wanted, known_line};
+use link_streams::{LONG_LINE_BYTES, LinkStream, time_behind};
+use node_links::{
+    DialFault, End, Exchanged, Link, Peer, Untold, exchange, next_form, read_line, write_line,
+};
 use node_system::is_no_file;
 use node_threads::{first_behind, from_shard};
 use orswot_core::Form;
@@ -30,6 +33,9 @@ const CONNECT_MILLISECONDS: u64 = 1_000;
 
 /// How often the other node's answers are still looked for once the links are to end: for a second in all.
 const LAST_LOOKS: u32 = 5;
+
+/// How many bytes are looked at of what answers a hello: one more than an answer has.
+const MAX_ANSWER_BYTES: usize = LONG_LINE_BYTES + 1;
 
 /// How many parts of a shard follow the first one in a period at most: with it 4 MiB of rows.
 const MAX_PARTS: u32 = 15;
@@ -78,6 +84,8 @@ impl Dialler {
 // A link that was dialled.
 struct Dialled<'a, R: Clock> {
     link: Link<LinkStream<'a, R>>,
+    // That the node which is dialled showed a key, where this one has keys.
+    shown: Shown,
     // The turn of the links in which it was begun.
     turn: u64,
     // When it came up.
@@ -91,12 +99,14 @@ impl<R: Clock> Drop for Dialled<'_, R> {
     fn drop(self) {
         let Dialled {
             link,
+            shown,
             turn: _,
             since: _,
             has_stood: _,
             in_parts,
         } = self;
         drop(link);
+        drop(shown);
         drop(in_parts);
     }
 }
@@ -239,6 +249,52 @@ where
     Ok(())
 }
 
+// The stream to the node that is dialled. Where nobody answers, the next hello is of this form.
+fn stream_to<'a, R>(
+    rt: &'a R,
+    links: &'a Links,
+    dialler: &Dialler,
+    form: &mut Form,
+) -> Result<LinkStream<'a, R>, LinkEnd>
+where
+    R: LinkRuntime,
+{
+    let socket = match reach(rt, dialler) {
+        Ok(socket) => socket,
+        Err(end) => {
+            *form = links.speaks;
+            return Err(end);
+        }
+    };
+    match LinkStream::new(rt, links.alloc, socket, &links.stopping, LAST_LOOKS) {
+        Ok(stream) => Ok(stream),
+        Err(_) => Err(LinkEnd::Fault(DialFault::Link(LinkFault::ReadFailed))),
+    }
+}
+
+// This node's hello goes out, and the other one's comes: who is there. A node with keys of links may want one shown in its place.
+fn greets<R: Clock>(links: &Links, dialled: &mut Dialled<'_, R>) -> Result<Replica, LinkEnd> {
+    let hello = dialled.link.peer.hello();
+    if let Err(fault) = write_line(links.alloc, &mut dialled.link.stream, &hello) {
+        return Err(end_of(links, DialFault::Link(fault)));
+    }
+    let bytes = line_bytes(links, &mut dialled.link.stream, MAX_ANSWER_BYTES)?;
+    if links.keys.is_none() && is_key_wanted(bytes.as_slice()) {
+        return Err(LinkEnd::KeyWanted);
+    }
+    let mut rest = bytes.as_slice();
+    let line = match read_line(links.alloc, &mut rest, dialled.link.peer.hearer()) {
+        Ok(Some(line)) => line,
+        Ok(None) => return Err(LinkEnd::Closed),
+        Err(fault) => return Err(end_of(links, DialFault::Link(fault))),
+    };
+    match dialled.link.peer.on_line(links.alloc, line, links.time()) {
+        Ok(_nothing) => {}
+        Err(fault) => return Err(end_of(links, DialFault::Link(fault))),
+    }
+    dialled.link.peer.other().ok_or(LinkEnd::Closed)
+}
+
 // A link to the node that is dialled, behind its hello, the first line of this node's life and what is known of the other one,
 // and who is there. The form is that of this node's hello, and then that of its next one.
 fn link_to<'a, R, G, L, W>(
@@ -254,33 +310,22 @@ where
     requires { node.links.now.shards ≡ node.pool.now.shards }
 {
     let (rt, links) = (node.rt, node.links);
-    let socket = match reach(rt, dialler) {
-        Ok(socket) => socket,
-        Err(end) => {
-            *form = links.speaks;
-            return Err(end);
-        }
-    };
-    let Ok(stream) = LinkStream::new(rt, links.alloc, socket, &links.stopping, LAST_LOOKS) else {
-        return Err(LinkEnd::Fault(DialFault::Link(LinkFault::ReadFailed)));
-    };
+    let mut stream = stream_to(rt, links, dialler, form)?;
+    let life = links.life(rt);
+    let shown = shows_key(rt, links, &mut stream, &life.own, &dialler.name)?;
     let speaks = *form;
     *form = next_form(links.speaks, speaks);
-    let life = links.life(rt);
     let peer = Peer::new(life.own, links.shards, End::Dialling, speaks);
     let peer = owning(rt, links, node.pool, peer);
     let mut dialled = Dialled {
         link: Link { stream, peer },
+        shown,
         turn: life.turn,
         since: time_behind(rt, 0),
         has_stood: false,
         in_parts: Vec::new(links.alloc),
     };
-    let hello = dialled.link.peer.hello();
-    let _said = say(node, &mut dialled, dialler.place(), &hello)?;
-    let Some(other) = dialled.link.peer.other() else {
-        return Err(LinkEnd::Closed);
-    };
+    let other = greets(links, &mut dialled)?;
     *form = links.speaks;
     greeted(&life.own, Some(dialler.name), &other)?;
     if let Some(line) = life.first_line() {

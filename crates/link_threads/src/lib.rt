@@ -3,7 +3,7 @@
 //!
 //! Each node that is dialled has a reader of its own for the long lines that come from there; all others have one together.
 //! Of what they tell each other, and of what goes over a socket, no contract speaks. What each exchange does is
-//! `node_links`', and what it asks of the shards `link_pool_port`'.
+//! `node_links`', what it asks of the shards `link_pool_port`', and what is said before the first one `link_rules`'.
 //!
 //! Its contracts cite these definitions:
 //! - `specs/Tasks`: what the threads of links do, and what a node that is dialled adds to it
@@ -14,6 +14,7 @@ mod book;
 mod cutting;
 mod dialling;
 mod incoming;
+mod keyed;
 pub mod laws;
 mod links;
 mod lives;

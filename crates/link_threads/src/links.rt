@@ -3,6 +3,7 @@ ghost use Rattle.std.specs.Prelude.{◌≤◌};
 
 use crate::book::{Begun, Book};
 use crate::incoming::Waiting;
+use crate::keyed::LinkKeys;
 use crate::reading::Readers;
 use crate::tallies::{LinkTallies, Tallies};
 use delta_range::Delta;
@@ -66,6 +67,8 @@ pub struct Links {
     /// Whether another node has said hello.
     pub(crate) has_met: AtomicBool,
     pub(crate) tallies: Tallies,
+    /// The keys of which both ends of a link show that they have one in common, if they are to.
+    pub(crate) keys: Option<LinkKeys>,
     ghost some: { 1 ≤ shards },
 }
 
@@ -89,6 +92,7 @@ impl Drop for Links {
             stopping,
             has_met,
             tallies,
+            keys,
         } = self;
         drop(life);
         drop(mailboxes);
@@ -103,6 +107,7 @@ impl Drop for Links {
         drop(stopping);
         drop(has_met);
         drop(tallies);
+        drop(keys);
     }
 }
 

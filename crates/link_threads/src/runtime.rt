@@ -1,16 +1,24 @@
 //! What the threads of links need of the system.
 use std::net::{Net, TcpListener, TcpStream};
+use std::random::RandomSource;
 use std::sync::Wait;
 use std::time::Clock;
 
-/// What the threads of links need of the system: its sockets, the time, and where to say what became of a link.
+/// What the threads of links need of the system: its sockets, the time, bytes that nobody foretells, and where to say what became
+/// of a link.
 pub trait LinkRuntime: Net<Listener = TcpListener, Stream = TcpStream>
     + Wait
     + Clock
+    + RandomSource
     + Print
     + Eprint {}
 
 impl<R> LinkRuntime for R
 where
-    R: Net<Listener = TcpListener, Stream = TcpStream> + Wait + Clock + Print + Eprint,
+    R: Net<Listener = TcpListener, Stream = TcpStream>
+        + Wait
+        + Clock
+        + RandomSource
+        + Print
+        + Eprint,
 {}

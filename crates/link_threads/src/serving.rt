@@ -2,6 +2,7 @@
 ghost use Rattle.std.specs.Prelude.{◌≡◌};
 
 use crate::dialling::STANDING_MILLISECONDS;
+use crate::keyed::{Shown, asks_for_key};
 use crate::links::{Links, Place, Wakes};
 use crate::lives::owning;
 use crate::node::Node;
@@ -9,13 +10,16 @@ use crate::origin::Origin;
 use crate::reading::{LineBytes, LineRead, Reader, unread};
 use link_lines::{Line, LinkFault, MAX_LINE_BYTES};
 use link_pool_port::PoolLinkPort;
-use link_rules::{LinkEnd, LinkWarning, MOST_AHEAD, greeted, is_heard_anew, is_welcome, known_in};
+use link_rules::{
+    LinkEnd, LinkWarning, MOST_AHEAD, greeted, is_challenge, is_heard_anew, is_welcome, known_in,
+};
 use link_streams::{Asking, LinkStream, MAX_LOOKS, time_behind};
 use node_links::{DialFault, End, Link, LinkPort, Peer, answer_line, hear_bytes};
 use presence_base::Replica;
 use shard_pool::{Gate, Lanes, Pool};
 use std::alloc::{AllocError, Global};
 use std::net::TcpStream;
+use std::random::RandomSource;
 use std::sync::Wait;
 use std::time::Clock;
 
@@ -47,6 +51,8 @@ struct Incoming<'a, R: Clock> {
     // The turn of the links in which it was begun.
     turn: u64,
     origin: Origin,
+    // That who dialled showed a key, where this node wants that.
+    shown: Shown,
     is_up: bool,
     // When it came up, and its number among those that did.
     since: u64,
@@ -68,6 +74,7 @@ impl<R: Clock> Drop for Incoming<'_, R> {
             link,
             turn: _,
             origin,
+            shown,
             is_up: _,
             since: _,
             number: _,
@@ -79,6 +86,7 @@ impl<R: Clock> Drop for Incoming<'_, R> {
         } = self;
         drop(link);
         drop(origin);
+        drop(shown);
         drop(shards);
         drop(heard);
     }
@@ -379,6 +387,9 @@ impl<'a, R: Clock> Incoming<'a, R> {
             Ok(bytes) => bytes,
             Err(fault) => return Err(self.end_without(rt, links, fault)),
         };
+        if !self.is_up && links.keys.is_none() && is_challenge(bytes.as_slice()) {
+            return Err(LinkEnd::KeyWanted);
+        }
         let line = LineBytes::new(bytes, self.link.peer.hearer());
         match self.read(node, line) {
             Ok(_) if self.link.stream.is_replaced() => Err(LinkEnd::Replaced),
@@ -428,6 +439,9 @@ impl<'a, R: Clock> Incoming<'a, R> {
         if !node.links.life(node.rt).is_of(self.turn) {
             return Err(LinkEnd::Reborn);
         }
+        if let Line::Hello { replica, .. } = &line {
+            self.shown.is_by(node.links, replica)?;
+        }
         let beaten = beaten_shard(&line);
         self.answers(node, line)?;
         if let Some(shard) = beaten {
@@ -459,13 +473,27 @@ impl<R: Wait + Clock + Eprint> Incoming<'_, R> {
     }
 }
 
-// The link of this socket, unless there is no memory or the system refuses it.
+// The stream of this socket, once who dialled has shown a key where this node wants that.
+fn stream_of<'a, R: Wait + Clock + RandomSource>(
+    rt: &'a R,
+    links: &'a Links,
+    socket: TcpStream,
+) -> Result<(LinkStream<'a, R>, Shown), LinkEnd> {
+    let Ok(mut stream) = LinkStream::new(rt, links.alloc, socket, &links.stopping, 0) else {
+        return Err(LinkEnd::Fault(DialFault::Link(LinkFault::ReadFailed)));
+    };
+    let own = links.life(rt).own.name;
+    let shown = asks_for_key(rt, links, &mut stream, &own)?;
+    Ok((stream, shown))
+}
+
+// The link of this socket, unless there is no memory, the system refuses it or who dialled shows no key.
 fn incoming_of<'a, R, G, L, W>(
     node: Node<'a, R, G, L, W>,
     socket: TcpStream,
 ) -> Option<Incoming<'a, R>>
 where
-    R: Wait + Clock + Eprint,
+    R: Wait + Clock + RandomSource + Eprint,
     G: Gate,
     L: Lanes,
     W: Wakes,
@@ -475,10 +503,12 @@ where
     let Ok(origin) = Origin::of(links.alloc, &socket) else {
         return None;
     };
-    let Ok(stream) = LinkStream::new(rt, links.alloc, socket, &links.stopping, 0) else {
-        let fault = DialFault::Link(LinkFault::ReadFailed);
-        links.tell_down(rt, origin.place(), LinkEnd::Fault(fault));
-        return None;
+    let (stream, shown) = match stream_of(rt, links, socket) {
+        Ok(keyed) => keyed,
+        Err(end) => {
+            links.tell_down(rt, origin.place(), end);
+            return None;
+        }
     };
     let life = links.life(rt);
     let peer = Peer::new(life.own, links.shards, End::Accepting, links.speaks);
@@ -487,6 +517,7 @@ where
         link: Link { stream, peer },
         turn: life.turn,
         origin,
+        shown,
         is_up: false,
         since: 0,
         number: 0,
@@ -521,7 +552,7 @@ where
 /// Serves links that came in, one after another, until the links are to end.
 pub(crate) fn serve_links<R, G, L, W>(rt: &R, links: &Links, pool: &Pool<G, L>, wakes: &W)
 where
-    R: Wait + Clock + Eprint,
+    R: Wait + Clock + RandomSource + Eprint,
     G: Gate,
     L: Lanes,
     W: Wakes,

@@ -13,6 +13,7 @@ use crate::runtime::LinkRuntime;
 use crate::serving::serve_links;
 use crate::tallies::Tallies;
 use crate::ticking::tick;
+use hmac_keys::Keys;
 use link_rules::{Life, MAX_LINKS};
 use link_streams::{Clerk, Stopping};
 use node_links::form_told;
@@ -25,7 +26,7 @@ use std::alloc::{AllocError, Global};
 use std::io;
 use std::net::{IpAddr, Net, TcpListener, TcpStream};
 use std::sync::atomic::{AtomicBool, AtomicU64};
-use std::sync::{Mutex, Wait};
+use std::sync::{Arc, Mutex, Wait};
 use std::time::Clock;
 
 /// What one thread of links does until they are to end.
@@ -108,7 +109,8 @@ fn dialler_of(
 }
 
 impl LinkTasks {
-    ghost use Rattle.std.specs.Prelude.{◌≡◌};
+    ghost use Rattle.std.specs.Prelude.{◌≡◌, Some};
+    ghost use Rattle.link_threads.specs.Tasks.{AreButKeys};
 
     /// What is shared, and what each thread does.
     pub fn into_parts(self) -> (Links, Vec<LinkTask>)
@@ -117,6 +119,15 @@ impl LinkTasks {
     {
         let LinkTasks { links, tasks } = self;
         (links, tasks)
+    }
+
+    /// Both ends of each link have to show that they have one of these keys in common.
+    pub fn wants(&mut self, keys: Arc<Keys, Global>)
+        ensures keys { self.new.links.keys ≡ Some keys }
+        ensures shards { self.new.links.shards ≡ self.old.links.shards }
+        ensures rest { AreButKeys self.old self.new }
+    {
+        self.links.keys = Some(keys);
     }
 
     /// Dials the node of this name too, at this host and port. Its long lines are read by a thread of their own.
@@ -224,6 +235,7 @@ pub fn tasks_for<R: Net>(
         stopping: Stopping::new(),
         has_met: AtomicBool::new(false),
         tallies: Tallies::new(),
+        keys: None,
     };
     Ok(LinkTasks { links, tasks })
 }

@@ -1,9 +1,8 @@
 -- Lines of one reason within a second are few.
-use Rattle.std.proofs.Common.{◌≡◌, ℕ, zero, suc, ◌+◌, ◌<◌, ◌≤◌, Bool, true, false, if◌then◌else◌, nat_lt, ◌==◌, refl, subst, arith}
+use Rattle.std.proofs.Common.{◌≡◌, ℕ, zero, suc, ◌+◌, ◌≤◌, Bool, true, false, if◌then◌else◌, nat_lt, ◌==◌, refl, subst, arith}
 use Rattle.std.proofs.lemmas.Bool.Decides.{nat_tests}
 use Rattle.node_log.specs.Counted.{behind_if, has_room, lines_in, lines_within}
 use Rattle.node_log.specs.declared.quota.Quota.{Quota}
-use Rattle.node_log.specs.declared.quota.TheConstants.{LINES_A_SECOND}
 
 -- with the lines that there were, so many events have no more than may be
 abbrev AreFew : ℕ → ℕ → Type 0

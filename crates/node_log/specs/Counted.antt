@@ -1,11 +1,11 @@
 -- Which events have a line, and for how many a line stands.
-use Rattle.std.specs.Prelude.{ℕ, zero, suc, ◌+◌, ◌-◌, ◌^◌, min, Bool, true, false, if◌then◌else◌, ◌==◌, ◌&&◌, ◌||◌, nat_lt, not, Option, Some, None}
+use Rattle.std.specs.Prelude.{ℕ, zero, suc, ◌+◌, ◌-◌, ◌^◌, min, Bool, true, false, if◌then◌else◌, ◌==◌, ◌&&◌, nat_lt, not, Option, Some, None}
 use Rattle.node_log.specs.declared.quota.Quota.{Quota}
 use Rattle.node_log.specs.declared.quota.TheConstants.{LINES_A_SECOND}
 use Rattle.node_log.specs.declared.reasons.Deed.{Deed}
 use Rattle.node_log.specs.declared.reasons.Deed.TheVariants as deeds
 use Rattle.node_log.specs.declared.reasons.Reason.{Reason}
-use Rattle.node_log.specs.declared.reasons.Reason.TheVariants.{BadRequest, Forbidden, NotFound, NotAllowed, LongHead, LongBody, Full, Crowded, Hasty, Handshakes, Unwatched, Queue, Late, NoHttp, Silent, Binary, NotAMessage, TooLong, Backlog, Fault, Stalled, Opened, Left, Lost, Stopped, Gone}
+use Rattle.node_log.specs.declared.reasons.Reason.TheVariants.{BadRequest, Forbidden, NotFound, NotAllowed, LongHead, LongBody, Full, Crowded, Hasty, Handshakes, Unwatched, Queue, Late, NoHttp, Silent, Binary, NotAMessage, TooLong, Backlog, Fault, Stalled, Opened, Left, Lost, Stopped, Gone, Unauthorized, Expired}
 use Rattle.node_log.specs.declared.reasons.Shown.{Shown}
 use Rattle.node_log.specs.declared.reasons.Shown.TheVariants as shown
 
@@ -37,6 +37,8 @@ deed_of Left = deeds.Went
 deed_of Lost = deeds.Went
 deed_of Stopped = deeds.Went
 deed_of Gone = deeds.Went
+deed_of Unauthorized = deeds.Refused
+deed_of Expired = deeds.Closed
 
 -- the server did it, for cause
 abbrev pub is_for_cause : Deed → Bool

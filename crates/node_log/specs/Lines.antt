@@ -1,5 +1,5 @@
 -- What lines say.
-use Rattle.std.specs.Prelude.{ℕ, ◌/◌, ◌-◌, ◌^◌, List, [], ◌++◌, codes, decimal, unsigned_abs}
+use Rattle.std.specs.Prelude.{ℕ, ◌/◌, ◌-◌, ◌^◌, List, ◌++◌, codes, decimal, unsigned_abs}
 use Rattle.std.specs.Fmt.{format_spec, styled_decimal}
 use Rattle.jiff_core.specs.declared.civil.datetime.DateTime.{DateTime}
 use Rattle.json.specs.Print.{quoted}

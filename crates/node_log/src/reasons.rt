@@ -87,10 +87,12 @@ pub enum Reason {
     Lost,
     Stopped,
     Gone,
+    Unauthorized,
+    Expired,
 }
 
 /// How many reasons there are.
-pub(crate) const REASONS: usize = 26;
+pub(crate) const REASONS: usize = 28;
 
 /// Each of them, in their order.
 pub(crate) const EACH_REASON: [Reason; REASONS] = [
@@ -120,6 +122,8 @@ pub(crate) const EACH_REASON: [Reason; REASONS] = [
     Reason::Lost,
     Reason::Stopped,
     Reason::Gone,
+    Reason::Unauthorized,
+    Reason::Expired,
 ];
 
 impl Reason {
@@ -136,7 +140,8 @@ impl Reason {
             | Reason::LongBody
             | Reason::Full
             | Reason::Crowded
-            | Reason::Hasty => Deed::Refused,
+            | Reason::Hasty
+            | Reason::Unauthorized => Deed::Refused,
             Reason::Handshakes
             | Reason::Unwatched
             | Reason::Queue
@@ -148,7 +153,8 @@ impl Reason {
             | Reason::TooLong
             | Reason::Backlog
             | Reason::Fault
-            | Reason::Stalled => Deed::Closed,
+            | Reason::Stalled
+            | Reason::Expired => Deed::Closed,
             Reason::Opened => Deed::Came,
             Reason::Left | Reason::Lost | Reason::Stopped | Reason::Gone => Deed::Went,
         }
@@ -183,6 +189,8 @@ impl Reason {
             Reason::Lost => "stream",
             Reason::Stopped => "stop",
             Reason::Gone => "failed",
+            Reason::Unauthorized => "unauthorized",
+            Reason::Expired => "expired",
         }
     }
 
@@ -217,6 +225,8 @@ impl Reason {
             Reason::Lost => "its connection broke off, or it broke the rules of WebSockets",
             Reason::Stopped => "the server stops",
             Reason::Gone => "it went before its answer was sent",
+            Reason::Unauthorized => "401, it shows no token that is taken",
+            Reason::Expired => "its token has expired, or is taken no more",
         }
     }
 

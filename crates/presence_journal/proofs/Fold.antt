@@ -12,10 +12,10 @@ use Rattle.presence_journal.specs.declared.entry.Outcome.TheVariants as outcomes
 use Rattle.presence_journal.specs.declared.rows.Item.{Item}
 use Rattle.presence_journal.specs.declared.rows.Item.TheVariants as items_are
 use Rattle.presence_journal.specs.declared.rows.RowDiff.{RowDiff}
-use Rattle.presence_journal.specs.Steps.{Step, Entry}
+use Rattle.presence_journal.specs.Steps.{Step, Entry, Start}
 use Rattle.presence_journal.specs.History.{History, Begin, Then, has_dot, first_some, row_added, shown}
 use Rattle.presence_journal.specs.Present.{RowMap, of_topic, present, dots_taken}
-use Rattle.presence_journal.specs.Queue.{Waiting, Behind, Queued, topic_of, topic_after, is_empty, diff_item, shout_item, diff_of, items_made, most_waiting, push_items, left_by, queue, queue_after, made_for, listed_for, took, taken, taken_after, apply_item, fold_from, fold}
+use Rattle.presence_journal.specs.Queue.{Waiting, Behind, Queued, topic_at, is_current, topic_of, topic_after, is_empty, diff_item, shout_item, diff_of, items_made, most_waiting, push_items, left_by, first_waiting, queue, queue_after, made_for, listed_for, took, first_taken, taken, taken_after, apply_item, fold_from, fold}
 use Rattle.presence_journal.specs.Table.{IsLegal, outcome_of, take_outcome}
 use Rattle.presence_journal.specs.Laws.{FoldsToPresent, of_key, is_callers}
 use Rattle.presence_journal.proofs.HistoryLemmas.{Quiet, is_quiet, legal_knows, shown_by}
@@ -126,9 +126,15 @@ take_quiet h e n t max legal a u = go (queue h n) (sym (same_Some _ _ (rw (a, u)
     go Behind o = fine _ _ o
     go (Queued q) o = fine _ _ o
 
+-- a current subscriber of a Start has the state of its topic
+fold_first : (s : Start) (t : List ℕ) (q : List Item) (o : Option (List ℕ)) → o ≡ Some t → (b : Bool) → first_waiting b ≡ Queued q → fold (first_taken b (listed_for (Begin s) o) ++ q) ≡ present (Begin s) t
+unfolding fold
+fold_first s t q o u false f = absurd (cc)
+fold_first s t q o u true f = rw (u, ← (same_Queued _ _ f)) (state_is (present (Begin s) t) (present_placed (Begin s) t))
+
 pub folds_to_present : FoldsToPresent
 unfolding queue topic_of taken
-folds_to_present (Begin s) legal n t u q w = absurd (cc)
+folds_to_present (Begin s) legal n t u q w = fold_first s t q (topic_at s.subscribers n) u (is_current s.current n) w
 folds_to_present (Then h e) legal n t u q w = go (concern e.step e.number n (made_for h e (topic_of h n)) (queue h n) (topic_of h n) (listed_for h (topic_of h n)) (taken h n)) (folds_to_present h legal.0 n)
   where
     go : Concern e.step e.number n (made_for h e (topic_of h n)) (queue h n) (topic_of h n) (listed_for h (topic_of h n)) (taken h n) → FoldsBefore h n → fold (taken (Then h e) n ++ q) ≡ present (Then h e) t

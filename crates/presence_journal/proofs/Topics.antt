@@ -8,7 +8,7 @@ use Rattle.presence_base.specs.Names.{is_short_text}
 use Rattle.presence_journal.specs.declared.step.Step.TheVariants as steps_are
 use Rattle.presence_journal.specs.Steps.{Step, Entry, Start}
 use Rattle.presence_journal.specs.History.{History, Begin, Then, onto, last_number}
-use Rattle.presence_journal.specs.Queue.{Waiting, Behind, topic_after, topic_at, topic_of, items_made, made_for, queue_after, queue}
+use Rattle.presence_journal.specs.Queue.{Waiting, Behind, Queued, is_current, first_waiting, topic_after, topic_at, topic_of, items_made, made_for, queue_after, queue, is_idle, IsQuiet, left_waiting, QueuesStay, CurrentStay}
 use Rattle.presence_journal.specs.Table.{is_subscriber, IsLegal}
 use Rattle.presence_journal.proofs.HistoryLemmas.{legal_before}
 
@@ -72,9 +72,18 @@ made_is h es e n t l f = go (topic_of h n) refl
     go None p = refl
     go (Some u) p = ap (items_made h e) (one_topic h es n t u l f p)
 
-pub queue-begin : (s : Start) (n : ℕ) → queue (Begin s) n ≡ Behind
+pub queue-begin : (s : Start) (n : ℕ) → queue (Begin s) n ≡ first_waiting (is_current s.current n)
 unfolding queue
 queue-begin s n = refl
+
+-- where no item waits, all that isn't behind stays
+left_same : (w : Waiting) → is_idle w ≡ true → left_waiting w ≡ w
+left_same Behind idle = refl
+left_same (Queued []) idle = refl
+left_same (Queued (i ∷ is)) idle = absurd (cc)
+
+pub queues_stay : (h g : History) → IsQuiet h → CurrentStay h g → QueuesStay h g
+queues_stay h g quiet stay n t e = stay n t e ∙ left_same (queue h n) (quiet n t e)
 
 pub queue-then : (h : History) (e : Entry) (n : ℕ) → queue (Then h e) n ≡ queue_after e.step e.number n (made_for h e (topic_of h n)) (queue h n)
 unfolding queue

@@ -44,6 +44,7 @@ begun r = Begin (record {
   chains = [];
   kept = nothing_kept;
   subscribers = [];
+  current = [];
   seated = 0;
 })
 

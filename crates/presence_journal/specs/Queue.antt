@@ -1,7 +1,8 @@
 -- What waits for a subscriber, what it took, and what a client makes of it.
-use Rattle.std.specs.Prelude.{ℕ, ◌+◌, Bool, true, false, cond, ◌&&◌, nat_eq, nat_lt, List, [], ◌∷◌, ◌++◌, length, take, drop, Option, Some, None}
+use Rattle.std.specs.Prelude.{◌≡◌, ℕ, ◌+◌, Bool, true, false, cond, ◌&&◌, nat_eq, nat_lt, List, [], ◌∷◌, ◌++◌, length, take, drop, Option, Some, None}
 use Rattle.std.specs.FinMap as map
 use Rattle.std.specs.Map.{lookup}
+use Rattle.std.specs.List.{list_any}
 use Rattle.presence_base.specs.declared.dots.Dot.{Dot}
 use Rattle.presence_base.specs.declared.row.Row.{Row}
 use Rattle.presence_base.specs.Order.{same_text}
@@ -81,9 +82,17 @@ abbrev pub made_for : History → Entry → Option (List ℕ) → List Item
 made_for h e None = []
 made_for h e (Some t) = items_made h e t
 
+-- whether a Start counts a subscriber among the current ones
+abbrev pub is_current : List ℕ → ℕ → Bool
+is_current ns n = list_any (nat_eq n) ns
+
+-- for a current one nothing waits behind a Start, and each other is behind
+abbrev pub first_waiting : Bool → Waiting
+first_waiting current = cond current (Queued []) Behind
+
 -- what waits for a present subscriber (of others it says nothing)
 unfoldable pub queue : History → ℕ → Waiting
-queue (Begin s) n = Behind
+queue (Begin s) n = first_waiting (is_current s.current n)
 queue (Then h e) n = queue_after e.step e.number n (made_for h e (topic_of h n)) (queue h n)
 
 abbrev pub listed_for : History → Option (List ℕ) → List (Dot × Row)
@@ -110,12 +119,43 @@ abbrev pub took : List (Dot × Row) → ℕ → Waiting → List Item → List I
 took rows max Behind before = given rows max Behind
 took rows max (Queued q) before = before ++ given rows max (Queued q)
 
+-- no item waits: one who is behind is owed the state in place of items
+abbrev pub is_idle : Waiting → Bool
+is_idle Behind = true
+is_idle (Queued []) = true
+is_idle (Queued (i ∷ is)) = false
+
+-- each present subscriber of a history is behind, or nothing waits for it
+abbrev pub IsQuiet : History → Type 0
+IsQuiet h = (n : ℕ) (t : List ℕ) → topic_of h n ≡ Some t → is_idle (queue h n) ≡ true
+
+-- How one history leaves the subscribers of another: what waits for each is as it was, and nobody is owed what it wasn't
+-- owed before;
+abbrev pub QueuesStay : History → History → Type 0
+QueuesStay h g = (n : ℕ) (t : List ℕ) → topic_of h n ≡ Some t → queue g n ≡ queue h n
+
+-- one for which nothing waits stays so, and each other is behind;
+abbrev pub left_waiting : Waiting → Waiting
+left_waiting (Queued []) = Queued []
+left_waiting _ = Behind
+
+abbrev pub CurrentStay : History → History → Type 0
+CurrentStay h g = (n : ℕ) (t : List ℕ) → topic_of h n ≡ Some t → queue g n ≡ left_waiting (queue h n)
+
+-- or each is behind, and owed the state of its topic.
+abbrev pub AllAreBehind : History → Type 0
+AllAreBehind g = (n : ℕ) (t : List ℕ) → topic_of g n ≡ Some t → queue g n ≡ Behind
+
 abbrev pub taken_after : Step → ℕ → List (Dot × Row) → Waiting → List Item → List Item
 taken_after (steps_are.Take m max) n rows w before = cond (nat_eq m n) (took rows max w before) before
 taken_after _ n rows w before = before
 
+-- a current one has the state of its topic as it is at the Start: it was not sent again
+abbrev pub first_taken : Bool → List (Dot × Row) → List Item
+first_taken current rows = cond current (items_are.State rows ∷ []) []
+
 unfoldable pub taken : History → ℕ → List Item
-taken (Begin s) n = []
+taken (Begin s) n = first_taken (is_current s.current n) (listed_for (Begin s) (topic_at s.subscribers n))
 taken (Then h e) n = taken_after e.step n (listed_for h (topic_of h n)) (queue h n) (taken h n)
 
 -- A client's table: a State replaces it; a Diff puts its joins in, and then takes its leaves out.

@@ -5,7 +5,7 @@ use crate::step::Step;
 use delta_range::Generations;
 use orswot_core::Told;
 use presence_base::{Dot, Replica};
-use presence_journal_lists::{Chains, Runs, Standings, Subscribers};
+use presence_journal_lists::{Chains, Numbers, Runs, Standings, Subscribers};
 use std::alloc::{AllocError, Global};
 use std::marker::Model;
 use std::sync::Arc;
@@ -191,8 +191,10 @@ pub struct Start {
     pub chains: Chains,
     /// The kept deltas: what the cuts so far told, joined.
     pub kept: Generations,
-    /// The subscribers that are present, each of them behind.
+    /// The subscribers that are present.
     pub subscribers: Subscribers,
+    /// Those of them that are current: they have the state of their topic, and nothing waits for them. Each other is behind.
+    pub current: Numbers,
     /// How many entries that came before were made through seats.
     pub seated: u64,
 }
@@ -265,6 +267,7 @@ impl Clone for Start {
         let chains = self.chains.clone()?;
         let kept = self.kept.clone()?;
         let subscribers = self.subscribers.clone()?;
+        let current = self.current.clone()?;
         Ok(Start {
             number: self.number,
             own: self.own,
@@ -277,6 +280,7 @@ impl Clone for Start {
             chains,
             kept,
             subscribers,
+            current,
             seated: self.seated,
         })
     }

@@ -8,7 +8,7 @@ use crate::step::Step;
 use delta_range::Generations;
 use orswot_core::Told;
 use presence_base::{MAX_COUNT, Replica};
-use presence_journal_lists::{Chains, Runs, Standings, Subscribers};
+use presence_journal_lists::{Chains, Numbers, Runs, Standings, Subscribers};
 use std::alloc::{AllocError, Global};
 use std::marker::Model;
 
@@ -84,6 +84,7 @@ impl Journal {
                 chains: Chains::new(Vec::new(alloc)),
                 kept: Generations::new(),
                 subscribers: Subscribers::new(Vec::new(alloc)),
+                current: Numbers::new(Vec::new(alloc)),
                 seated: 0,
             },
             entries: Entries::new(alloc),

@@ -37,7 +37,7 @@ Runs = List (ℕ × ℕ)
 
 -- ---- older counts
 
-stays_last : (o : Outcome) (last : ℕ) → renews_kept o ≡ false → last ≡ cut_after o last
+pub stays_last : (o : Outcome) (last : ℕ) → renews_kept o ≡ false → last ≡ cut_after o last
 stays_last (outcomes_are.CutAt from to) last uncut = absurd (cc)
 stays_last (outcomes_are.Reborn ps) last uncut = absurd (cc)
 stays_last _ last uncut = refl
@@ -75,7 +75,7 @@ changes_linked last unsettled m e c l long row some link is = record {
 
 -- ---- rows
 
-no_cut : (o : Outcome) (x : Option Row) → renews_kept o ≡ false → x ≡ unless_cut o x
+pub no_cut : (o : Outcome) (x : Option Row) → renews_kept o ≡ false → x ≡ unless_cut o x
 no_cut (outcomes_are.CutAt from to) x uncut = absurd (cc)
 no_cut _ x uncut = refl
 

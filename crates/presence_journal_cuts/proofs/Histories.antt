@@ -154,7 +154,7 @@ tells_of_none : (s : Step) → tells s ≡ true → is_of_rows s ≡ false
 tells_of_none (steps_are.Merge t) e = refl
 tells_of_none _ e = absurd (cc)
 
-after_quiet : (s : Step) (o : Outcome) (d : Dot) (x : Option Row) → is_quiet o ≡ true → first_some (row_added s o d) (cond (has_dot (dots_taken o) d) None x) ≡ x
+pub after_quiet : (s : Step) (o : Outcome) (d : Dot) (x : Option Row) → is_quiet o ≡ true → first_some (row_added s o d) (cond (has_dot (dots_taken o) d) None x) ≡ x
 after_quiet s o d x q = λ i. first_some (quiet_none s o d q i) (cond (has_dot (quiet_taken o q i) d) None x)
 
 -- an own row after an entry

@@ -18,3 +18,5 @@ pub mod CutShort
 pub mod PartFacts
 pub mod PartRows
 pub mod PickedLemmas
+pub mod Waiting
+pub mod Passing

@@ -1,5 +1,5 @@
 -- What a Start holds that stands for a history: all that later entries depend on.
-use Rattle.std.specs.Prelude.{◌≡◌, ◌<◌, ◌≤◌, ◌+◌, ◌^◌, ℕ, true, false, cond, nat_eq, List, map, Option, Some, None}
+use Rattle.std.specs.Prelude.{◌≡◌, ◌<◌, ◌≤◌, ◌+◌, ◌^◌, ℕ, true, false, cond, nat_eq, List, [], map, Option, Some, None}
 use Rattle.std.specs.List.{AllByRecursion, list_all}
 use Rattle.presence_base.specs.declared.dots.Replica.{Replica}
 use Rattle.presence_base.specs.declared.dots.Dot.{Dot}
@@ -12,7 +12,7 @@ use Rattle.replica_status.specs.Boards.{standing_in}
 use Rattle.presence_journal.specs.StepLimits.{is_heard}
 use Rattle.presence_journal.specs.declared.entry.Start.{Start}
 use Rattle.presence_journal.specs.History.{History, own, count, last_number, time, standing, status, is_gone, last_cut, covered, live, shown}
-use Rattle.presence_journal.specs.Queue.{topic_at, topic_of}
+use Rattle.presence_journal.specs.Queue.{Queued, topic_at, topic_of, is_current, queue}
 use Rattle.presence_journal.specs.Table.{IsLegal, is_subscriber}
 use Rattle.presence_journal_cuts.specs.Chains.{AreUpTo, Counts}
 use Rattle.presence_journal_cuts.specs.Cuts.{chain_in, chain, older}
@@ -33,7 +33,8 @@ ListsUnused h xs = (c : ℕ) → count h < c → chain_in xs c ≡ chain h c
 
 -- The Start has the next number. Of a replica that is gone only the standing is kept: its dots are not covered, and no row
 -- of it is live. What a Start has for a count that is not used yet is the chain of the row that uses it: a wrong one would
--- make a later cut tell counts that never went. How many entries have a seat is counted above the journal; here it is
+-- make a later cut tell counts that never went. It counts as current only subscribers for which nothing waits: of any other it
+-- would lose items. How many entries have a seat is counted above the journal; here it is
 -- told only that they are no more than the numbers.
 pub record StandsFor (h : History) (s : Start) : Type 0 where
   pub number : s.number ≡ last_number h + 1
@@ -50,6 +51,7 @@ pub record StandsFor (h : History) (s : Start) : Type 0 where
   pub topics : (n : ℕ) → topic_at s.subscribers n ≡ topic_of h n
   pub subscribers : list_all (is_subscriber s.number) s.subscribers ≡ true
   pub once : has_repeat nat_eq (map (λ x. x.0) s.subscribers) ≡ false
+  pub current : (n : ℕ) → is_current s.current n ≡ true → queue h n ≡ Queued []
   pub seated : s.seated ≤ s.number
   pub time : s.time ≡ time h
   pub last_cut : s.last_cut ≡ last_cut h
@@ -61,3 +63,7 @@ pub record IsCheckpoint (h : History) (s : Start) : Type 0 where
   pub legal : IsLegal h
   pub room : last_number h < 2 ^ 62
   pub stands : StandsFor h s
+
+-- the Start counts as current each subscriber for which nothing waits
+abbrev pub CountsCurrent : History → Start → Type 0
+CountsCurrent h s = (n : ℕ) (t : List ℕ) → topic_of h n ≡ Some t → queue h n ≡ Queued [] → is_current s.current n ≡ true

@@ -24,6 +24,7 @@ pub mod Silent
 pub mod Next
 pub mod Later
 pub mod Steps
+pub mod Waiting
 pub mod WorkedTables
 mod WorkedRuns
 mod Limit

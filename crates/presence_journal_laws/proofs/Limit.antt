@@ -6,7 +6,7 @@ use Rattle.presence_journal.specs.declared.rows.Item.{Item}
 use Rattle.presence_journal.specs.declared.step.Step.{Step}
 use Rattle.presence_journal.specs.declared.entry.Entry.{Entry}
 use Rattle.presence_journal.specs.History.{History, Begin, Then}
-use Rattle.presence_journal.specs.Queue.{Waiting, Behind, Queued, most_waiting, queued, push_items, left_by, queue_after, made_for, items_made, topic_of, queue}
+use Rattle.presence_journal.specs.Queue.{Waiting, Behind, Queued, is_current, first_waiting, most_waiting, queued, push_items, left_by, queue_after, made_for, items_made, topic_of, queue}
 use Rattle.presence_journal.specs.Laws.{HoldsMost, QueuesItems, FallsBehind, StaysBehind, renews}
 use Rattle.presence_journal.proofs.Topics.{queue-then}
 
@@ -39,9 +39,13 @@ short_after (steps_are.Subscribe topic) number n new w l = either_short (nat_eq 
 short_after (steps_are.Take m max) number n new w l = either_short (nat_eq m n) (left_by max w) (push_items w new) (short_left max w l) (short_pushed w new)
 short_after _ number n new w l = short_pushed w new
 
+short_first : (b : Bool) → IsShort (first_waiting b)
+short_first true = omega arith
+short_first false = tt
+
 queue_short : (h : History) (n : ℕ) → IsShort (queue h n)
 unfolding queue
-queue_short (Begin s) n = tt
+queue_short (Begin s) n = short_first (is_current s.current n)
 queue_short (Then h e) n = short_after e.step e.number n (made_for h e (topic_of h n)) (queue h n) (queue_short h n)
 
 pub holds_most : HoldsMost

@@ -14,12 +14,12 @@ use Rattle.presence_journal_laws.proofs.Next.{alike_next}
 use Rattle.presence_journal_laws.proofs.Later.{itself, chained}
 
 -- where there is room, the history after a step is by the table's outcome
-after_is : (h : History) (s : Step) (seat : Option ℕ) (o : Option Outcome) → is_full h ≡ false → outcome_of h s ≡ o → after h s seat ≡ with_outcome h s seat o
+pub after_is : (h : History) (s : Step) (seat : Option ℕ) (o : Option Outcome) → is_full h ≡ false → outcome_of h s ≡ o → after h s seat ≡ with_outcome h s seat o
 unfolding accepted
 after_is h s seat None room e = refused_stays h s seat (ap (λ b. cond b None (outcome_of h s)) room ∙ e)
 after_is h s seat (Some o) room e = after-accepted h s seat o e room
 
-legal_next : (h : History) (s : Step) (seat : Option ℕ) (o : Outcome) → IsLegal h → is_full h ≡ false → is_step s ≡ true → outcome_of h s ≡ Some o → IsLegal (Then h (next_entry h s seat o))
+pub legal_next : (h : History) (s : Step) (seat : Option ℕ) (o : Outcome) → IsLegal h → is_full h ≡ false → is_step s ≡ true → outcome_of h s ≡ Some o → IsLegal (Then h (next_entry h s seat o))
 legal_next h s seat o l room i e = (l, e, refl, room, i)
 
 -- a step of a subscriber leaves a history alike

@@ -240,6 +240,7 @@ stands_whole = record {
   topics = topic_whole;
   subscribers = refl;
   once = refl;
+  current = λ n f. absurd (cc);
   seated = omega arith;
   time = time_whole;
   last_cut = cut_whole;

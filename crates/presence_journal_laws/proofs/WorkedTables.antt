@@ -15,7 +15,7 @@ use Rattle.presence_journal.specs.declared.entry.Outcome.{Outcome}
 use Rattle.presence_journal.specs.declared.entry.Entry.{Entry}
 use Rattle.presence_journal.specs.History.{History, Begin, Then, is_full, shown}
 use Rattle.presence_journal.specs.Present.{RowMap, place_cmp, place_of, of_topic, dots, put_all, put as put_row, present, in_order, listed, dots_of, missing_in, changes}
-use Rattle.presence_journal.specs.Queue.{Waiting, Behind, topic_of, diff_item, shout_item, diff_of, items_made, queue, queue_after, made_for, listed_for, taken, taken_after}
+use Rattle.presence_journal.specs.Queue.{Waiting, topic_at, is_current, first_waiting, first_taken, topic_of, diff_item, shout_item, diff_of, items_made, queue, queue_after, made_for, listed_for, taken, taken_after}
 use Rattle.presence_journal.specs.Table.{is_mine, has_key, rows_of_pid, rows_of_key, listed_key, tracked, updated, untracked, for_present, take_outcome, outcome_of, accepted, with_outcome, after}
 use Rattle.presence_journal.specs.Laws.{ran}
 use Rattle.presence_journal.proofs.FoldOrder.{place_cmp_total, place_ties}
@@ -94,7 +94,7 @@ made_is h e None = refl
 made_is h e (Some t) = ap (λ d. diff_item d ++ shout_item e.step t) (diff_now h e t)
 
 abbrev pub queue_now : History → ℕ → Waiting
-queue_now (Begin s) n = Behind
+queue_now (Begin s) n = first_waiting (is_current s.current n)
 queue_now (Then h e) n = queue_after e.step e.number n (made_now h e (topic_of h n)) (queue_now h n)
 
 pub queue_is : (h : History) (n : ℕ) → queue h n ≡ queue_now h n
@@ -111,12 +111,12 @@ listed_for_is h None = refl
 listed_for_is h (Some t) = listed_now h t
 
 abbrev pub taken_now : History → ℕ → List Item
-taken_now (Begin s) n = []
+taken_now (Begin s) n = first_taken (is_current s.current n) (listed_now_for (Begin s) (topic_at s.subscribers n))
 taken_now (Then h e) n = taken_after e.step n (listed_now_for h (topic_of h n)) (queue_now h n) (taken_now h n)
 
 pub taken_is : (h : History) (n : ℕ) → taken h n ≡ taken_now h n
 unfolding taken
-taken_is (Begin s) n = refl
+taken_is (Begin s) n = ap (first_taken (is_current s.current n)) (listed_for_is (Begin s) (topic_at s.subscribers n))
 taken_is (Then h e) n = let rows = listed_for_is h (topic_of h n) in let waits = queue_is h n in let before = taken_is h n in λ i. taken_after e.step n (rows i) (waits i) (before i)
 
 -- outcomes

@@ -16,12 +16,13 @@ use Rattle.presence_journal.specs.declared.entry.Entry.{Entry}
 use Rattle.presence_journal.specs.declared.entry.Start.{Start}
 use Rattle.presence_journal.specs.History.{History, Begin, onto, own, count, time, standing, status, hears, last_cut, is_full, covered, IsTop, shown}
 use Rattle.presence_journal.specs.Present.{present, listed}
+use Rattle.presence_journal.specs.Queue.{topic_of, items_given, IsQuiet, QueuesStay}
 use Rattle.presence_journal.specs.Table.{IsLegal, is_step, outcome_of, after}
 use Rattle.presence_journal_known.specs.Full.{IsFullOf}
 use Rattle.presence_journal_cuts.specs.Chains.{Counts}
 use Rattle.presence_journal_cuts.specs.Cuts.{chain, older, IsCut}
 use Rattle.presence_journal_cuts.specs.KeptDeltas.{AreKeptOf, IsToldFrom}
-use Rattle.presence_journal_cuts.specs.Checkpoints.{kept_row, IsCheckpoint}
+use Rattle.presence_journal_cuts.specs.Checkpoints.{kept_row, IsCheckpoint, CountsCurrent}
 
 -- They say the same of all that the answers to later steps depend on, but for numbers and subscribers.
 pub record IsLike (g h : History) : Type 0 where
@@ -85,3 +86,30 @@ GoOnTellingTheSame = (h : History) (s : Start) (es fs : List Entry) → IsCheckp
 abbrev pub StepsLeaveAlike : Type 0
 StepsLeaveAlike = (g h : History) → IsLike g h → IsLegal g → IsLegal h → is_full g ≡ false → is_full h ≡ false
     → (s : Step) → is_step s ≡ true → (x y : Option ℕ) → IsLike (after g s x) (after h s y)
+
+-- Subscribers.
+
+-- the same are present on the same topics, and the same waits for each
+pub record WaitAlike (g h : History) : Type 0 where
+  pub topics : (n : ℕ) → topic_of g n ≡ topic_of h n
+  pub queues : QueuesStay h g
+
+-- where no item waits, a checkpoint that counts as current each for whom nothing waits leaves it so
+abbrev pub BeginsWaitingAlike : Type 0
+BeginsWaitingAlike = (h : History) (s : Start) → IsCheckpoint h s → IsQuiet h → CountsCurrent h s → WaitAlike (Begin s) h
+
+-- a take gives the same, and has the same outcome
+abbrev pub TakesAlike : Type 0
+TakesAlike = (g h : History) → IsLike g h → WaitAlike g h → (n max : ℕ)
+    → ((t : List ℕ) → topic_of h n ≡ Some t → items_given g n max ≡ items_given h n max)
+    × (outcome_of g (steps_are.Take n max) ≡ outcome_of h (steps_are.Take n max))
+
+abbrev pub is_subscribe : Step → Bool
+is_subscribe (steps_are.Subscribe topic) = true
+is_subscribe _ = false
+
+-- a step that both have room for leaves that so; a new subscriber alone has another number here than there
+abbrev pub StepsWaitAlike : Type 0
+StepsWaitAlike = (g h : History) → IsLike g h → WaitAlike g h → IsLegal g → IsLegal h → is_full g ≡ false
+    → is_full h ≡ false → (s : Step) → is_step s ≡ true → is_subscribe s ≡ false → (x y : Option ℕ)
+    → WaitAlike (after g s x) (after h s y)

@@ -1,5 +1,5 @@
 -- The laws of checkpoints, which the functions of `laws` state: what a history says, its checkpoint says too.
-use Rattle.std.specs.Prelude.{◌≡◌, ◌<◌, ◌↔◌, ℕ, ◌+◌, ◌^◌, false, List, Some}
+use Rattle.std.specs.Prelude.{◌≡◌, ◌<◌, ◌↔◌, ℕ, ◌+◌, ◌^◌, true, false, List, [], Some}
 use Rattle.presence_base.specs.declared.dots.Replica.{Replica}
 use Rattle.presence_base.specs.declared.dots.Dot.{Dot}
 use Rattle.presence_base.specs.declared.row.Row.{Row}
@@ -12,14 +12,14 @@ use Rattle.presence_journal.specs.declared.entry.Start.{Start}
 use Rattle.presence_journal.specs.declared.entry.Entry.{Entry}
 use Rattle.presence_journal.specs.History.{History, Begin, Then, own, count, last_number, time, last_cut, is_full, next_dot, status, is_gone, hears, known, covered, IsTop, removed, live, shown}
 use Rattle.presence_journal.specs.Present.{present, listed}
-use Rattle.presence_journal.specs.Queue.{Behind, topic_of, queue}
+use Rattle.presence_journal.specs.Queue.{Behind, Queued, topic_of, is_current, queue, taken, fold, IsQuiet, QueuesStay, CurrentStay, AllAreBehind}
 use Rattle.presence_journal.specs.Table.{IsStart, IsLegal, IsKept}
 use Rattle.presence_journal_known.specs.Full.{IsFullOf}
 use Rattle.presence_journal_known.specs.LeftOut.{HoldsCovered}
 use Rattle.presence_journal_cuts.specs.Chains.{Counts}
 use Rattle.presence_journal_cuts.specs.Cuts.{chain, older, recent, IsCut}
 use Rattle.presence_journal_cuts.specs.KeptDeltas.{renews_kept, AreKeptOf, IsToldFrom}
-use Rattle.presence_journal_cuts.specs.Checkpoints.{kept_row, IsCheckpoint}
+use Rattle.presence_journal_cuts.specs.Checkpoints.{kept_row, IsCheckpoint, CountsCurrent}
 
 -- a checkpoint is a sound Start: a legal history can begin with it, and a journal can
 abbrev pub IsSound : Type 0
@@ -140,7 +140,28 @@ KeepsToldFrom = (h : History) (s : Start) → IsCheckpoint h s → (form : Form)
 abbrev pub KeepsTopics : Type 0
 KeepsTopics = (h : History) (s : Start) → IsCheckpoint h s → (n : ℕ) → topic_of (Begin s) n ≡ topic_of h n
 
--- each present subscriber is behind, and owed the whole state
+-- a subscriber that the Start doesn't count as current is behind, and owed the whole state; where it counts none so, each is
 abbrev pub SubscribersAreBehind : Type 0
 SubscribersAreBehind = (h : History) (s : Start) → IsCheckpoint h s → (n : ℕ) (t : List ℕ) → topic_of h n ≡ Some t
-    → queue (Begin s) n ≡ Behind
+    → is_current s.current n ≡ false → queue (Begin s) n ≡ Behind
+
+abbrev pub NoneIsCurrent : Type 0
+NoneIsCurrent = (h : History) (s : Start) → IsCheckpoint h s → s.current ≡ [] → AllAreBehind (Begin s)
+
+-- for one that it counts as current nothing waits, as before
+abbrev pub CurrentAreServed : Type 0
+CurrentAreServed = (h : History) (s : Start) → IsCheckpoint h s → (n : ℕ) → is_current s.current n ≡ true
+    → (queue h n ≡ Queued []) × (queue (Begin s) n ≡ Queued [])
+
+-- and what it took before the Start folds to the rows to which what it is counted to have taken there does
+abbrev pub FoldsStay : Type 0
+FoldsStay = (h : History) (s : Start) → IsCheckpoint h s → (n : ℕ) (t : List ℕ) → topic_of h n ≡ Some t
+    → is_current s.current n ≡ true → fold (taken (Begin s) n) ≡ fold (taken h n)
+
+-- where the Start counts as current each for whom nothing waits, each of these stays so, and the others are behind
+abbrev pub OthersFallBehind : Type 0
+OthersFallBehind = (h : History) (s : Start) → IsCheckpoint h s → CountsCurrent h s → CurrentStay h (Begin s)
+
+-- so where no item waits, nobody is owed what it wasn't owed before
+abbrev pub QuietStays : Type 0
+QuietStays = (h : History) (s : Start) → IsCheckpoint h s → IsQuiet h → CountsCurrent h s → QueuesStay h (Begin s)

@@ -55,6 +55,7 @@ worked_start = record {
   chains = (2, (0, 1) ∷ []) ∷ [];
   kept = nothing_kept;
   subscribers = (1, room) ∷ [];
+  current = [];
   seated = 0;
 }
 

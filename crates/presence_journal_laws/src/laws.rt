@@ -1,8 +1,8 @@
 //! Laws of the presence table, of checkpoints and of what other nodes make of cuts: functions that do nothing, and whose
 //! contracts are the laws.
 
-ghost use Rattle.presence_journal_laws.specs.Laws.{IsSound, BeginsLegal, BeginsKept, BeginsWithRoom, KeepsCounts, KeepsStatus, KeepsHearing, KeepsCoveredDots, KeepsTop, KeepsKnown, KeepsShown, KeepsLive, KeepsRemoved, LiveIsKept, KeepsPresent, KeepsListed, KeepsSet, KeepsFull, FullStands, KeepsCut, KeepsOlder, KeepsRecent, KeepsShownChains, KeepsUnusedChains, OneKept, OthersKeep, KeepsKeptDeltas, KeepsToldFrom, KeepsTopics, SubscribersAreBehind};
-ghost use Rattle.presence_journal_laws.specs.Later.{BeginsAlike, AlikeTellTheSame, SameOutcomes, StepsLeaveAlike, StaysAlike, GoOnTellingTheSame};
+ghost use Rattle.presence_journal_laws.specs.Laws.{IsSound, BeginsLegal, BeginsKept, BeginsWithRoom, KeepsCounts, KeepsStatus, KeepsHearing, KeepsCoveredDots, KeepsTop, KeepsKnown, KeepsShown, KeepsLive, KeepsRemoved, LiveIsKept, KeepsPresent, KeepsListed, KeepsSet, KeepsFull, FullStands, KeepsCut, KeepsOlder, KeepsRecent, KeepsShownChains, KeepsUnusedChains, OneKept, OthersKeep, KeepsKeptDeltas, KeepsToldFrom, KeepsTopics, SubscribersAreBehind, NoneIsCurrent, CurrentAreServed, FoldsStay, OthersFallBehind, QuietStays};
+ghost use Rattle.presence_journal_laws.specs.Later.{BeginsAlike, AlikeTellTheSame, SameOutcomes, StepsLeaveAlike, StaysAlike, GoOnTellingTheSame, BeginsWaitingAlike, TakesAlike, StepsWaitAlike};
 ghost use Rattle.presence_journal_laws.specs.Worked.{StartStands};
 ghost use Rattle.presence_journal.specs.Laws.{FoldsToPresent, PresentIsShown, ChangesLead, DiffsLead, NewIsUnknown, NewIsCounted, RowsAreKnown, RefsAreDistinct, OnlyNamedLeave, OthersStay, OthersHearNothing, RefusedStays, HoldsMost, QueuesItems, FallsBehind, StaysBehind, StaysLegal, StaysKept, RebirthLosesNoRow, AsWorked};
 ghost use Rattle.presence_journal.specs.Merges.{RemovedIsKnown, KnownIsLiveOrRemoved, MergeIsKnown, MergeIsLive, LiveStays, ShownStays, OwnStepsAlone};
@@ -159,10 +159,22 @@ pub fn kept_deltas_stay()
     ensures told { KeepsToldFrom }
 {}
 
-/// Each subscriber keeps its topic, and is owed the whole state.
+/// Each subscriber keeps its topic. One that the Start doesn't count as current is owed the whole state, and so is each where
+/// it counts none so.
 pub fn subscribers_stay()
     ensures topics { KeepsTopics }
     ensures behind { SubscribersAreBehind }
+    ensures all { NoneIsCurrent }
+{}
+
+/// For a subscriber that the Start counts as current nothing waited, and nothing waits; what it took before folds to the rows
+/// of its topic behind the Start. Where each for whom nothing waits is counted so, the others are behind; and where no item
+/// waited for anybody, what waits for each subscriber stays as it was.
+pub fn current_subscribers_stay()
+    ensures current { CurrentAreServed }
+    ensures folds { FoldsStay }
+    ensures others { OthersFallBehind }
+    ensures queues { QuietStays }
 {}
 
 /// A checkpoint and the history that it stands for are alike, and histories that are alike say the same.
@@ -183,6 +195,14 @@ pub fn steps_leave_alike()
 pub fn later_entries_agree()
     ensures alike { StaysAlike }
     ensures say { GoOnTellingTheSame }
+{}
+
+/// Where no item waits, the same waits for each subscriber behind a checkpoint that counts as current each for whom nothing
+/// waits. So each take gives the same as it would have, and after each step but a subscribe it is still so.
+pub fn subscribers_wait_alike()
+    ensures begins { BeginsWaitingAlike }
+    ensures takes { TakesAlike }
+    ensures steps { StepsWaitAlike }
 {}
 
 /// A worked Start stands for its run, in which a row was updated and another replica went for good.

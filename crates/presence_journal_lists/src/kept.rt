@@ -1,4 +1,4 @@
-//! Runs, chains and subscribers of a Start.
+//! Runs, chains and subscribers of a Start, and the numbers of subscribers.
 use presence_base::Topic;
 use std::alloc::AllocError;
 use std::marker::Model;
@@ -150,6 +150,57 @@ impl Subscribers {
     }
 
     pub fn as_slice(&self) -> &[(u64, Topic)]
+        ensures { result.now ≡ self.now }
+    {
+        self.items.as_slice()
+    }
+}
+
+/// Numbers of subscribers.
+#[derive(Debug)]
+pub struct Numbers {
+    items: Vec<u64>,
+}
+
+impl Drop for Numbers {
+    fn drop(self) {
+        let Numbers { items } = self;
+        drop(items);
+    }
+}
+
+impl Model for Numbers {
+    ghost use Rattle.std.specs.Prelude.{ℕ, List};
+    ghost use Rattle.std.specs.Coded.{coded_list, coded_ℕ};
+
+    ghost Value = { List ℕ };
+
+    ghost coded = { coded_list coded_ℕ };
+
+    ghost view = { λ n. n.items.items };
+}
+
+impl Clone for Numbers {
+    ghost use Rattle.std.specs.Prelude.{◌≡◌};
+
+    ghost is_clone = { λ n m. m ≡ n };
+
+    fn clone(&self) -> Result<Numbers, AllocError> {
+        let items = self.items.clone()?;
+        Ok(Numbers { items })
+    }
+}
+
+impl Numbers {
+    ghost use Rattle.std.specs.Prelude.{◌≡◌};
+
+    pub fn new(items: Vec<u64>) -> Numbers
+        ensures { result ≡ items.items }
+    {
+        Numbers { items }
+    }
+
+    pub fn as_slice(&self) -> &[u64]
         ensures { result.now ≡ self.now }
     {
         self.items.as_slice()

@@ -1,5 +1,5 @@
-//! The lists in what a shard's journal begins with: runs and chains of counts, subscribers with their topics, and the
-//! standings of other replicas. Contracts see each as a list.
+//! The lists in what a shard's journal begins with: runs and chains of counts, subscribers with their topics, their
+//! numbers, and the standings of other replicas. Contracts see each as a list.
 #![tactic(auto)]
 
 mod gone;
@@ -8,6 +8,6 @@ mod lives;
 mod standings;
 
 pub use gone::GoneReplicas;
-pub use kept::{Chains, Runs, Subscribers};
+pub use kept::{Chains, Numbers, Runs, Subscribers};
 pub use lives::Lives;
 pub use standings::Standings;

@@ -9,7 +9,7 @@ use Rattle.presence_journal.specs.declared.step.Step.{Step}
 use Rattle.presence_journal.specs.declared.entry.Entry.{Entry}
 use Rattle.presence_journal.specs.declared.entry.Start.{Start}
 use Rattle.presence_journal.specs.History.{History, Begin, Then, onto}
-use Rattle.presence_journal.specs.Queue.{Waiting, Behind, Queued, topic_after, topic_at, topic_of, most_waiting, queued, push_items, left_by, queue_after, made_for, queue, is_waiting}
+use Rattle.presence_journal.specs.Queue.{Waiting, Behind, Queued, is_current, first_waiting, topic_after, topic_at, topic_of, most_waiting, queued, push_items, left_by, queue_after, made_for, queue, is_waiting}
 use Rattle.presence_journal.specs.Table.{IsLegal}
 use Rattle.presence_journal_walks.specs.Waits.{makes_one, tally_of, tally_pushed, tally_left, tally_after, tally_waits}
 use Rattle.presence_journal.proofs.Diffs.{legal_at}
@@ -45,9 +45,13 @@ short_after (steps_are.Subscribe topic) number n new w l = either_short (nat_eq 
 short_after (steps_are.Take m max) number n new w l = either_short (nat_eq m n) (left_by max w) (push_items w new) (short_left max w l) (short_pushed w new)
 short_after _ number n new w l = short_pushed w new
 
+short_first : (b : Bool) → IsShort (first_waiting b)
+short_first true = omega arith
+short_first false = tt
+
 pub queue_short : (h : History) (n : ℕ) → IsShort (queue h n)
 unfolding queue
-queue_short (Begin s) n = tt
+queue_short (Begin s) n = short_first (is_current s.current n)
 queue_short (Then h e) n = short_after e.step e.number n (made_for h e (topic_of h n)) (queue h n) (queue_short h n)
 
 -- one item more
@@ -101,9 +105,9 @@ pub record IsFollowed (n : ℕ) (topic : Option (List ℕ)) (tally : Tally) (h :
   pub named : topic ≡ topic_of h n
   pub waiting : tally ≡ tally_of (queue h n)
 
-pub followed_none : (n : ℕ) (s : Start) (o : Option (List ℕ)) → o ≡ topic_at s.subscribers n → IsFollowed n o tallies_are.Behind (Begin s)
+pub followed_none : (n : ℕ) (s : Start) (o : Option (List ℕ)) (w : Tally) → o ≡ topic_at s.subscribers n → w ≡ tally_of (first_waiting (is_current s.current n)) → IsFollowed n o w (Begin s)
 unfolding topic_of queue
-followed_none n s o is = record { named = is; waiting = refl }
+followed_none n s o w is first = record { named = is; waiting = first }
 
 followed_then : (n : ℕ) (topic next : Option (List ℕ)) (made : Bool) (tally after : Tally) (h : History) (e : Entry) → IsLegal (Then h e) → next ≡ topic_after e.step e.number n topic → made ≡ makes_one h (Then h e) e topic → after ≡ tally_after e.step e.number n made tally → IsFollowed n topic tally h → IsFollowed n next after (Then h e)
 unfolding topic_of queue

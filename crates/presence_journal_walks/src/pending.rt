@@ -3,7 +3,7 @@ ghost use Rattle.std.specs.Prelude.{◌≡◌, ◌++◌, [], cond, Some, IfOk, O
 ghost use Rattle.std.specs.BTreeMap.{get};
 ghost use Rattle.presence_base.specs.Order.{dot_cmp};
 ghost use Rattle.presence_journal.specs.History.{Begin, onto};
-ghost use Rattle.presence_journal.specs.Queue.{topic_of, diff_item, shout_item, queued, push_items, left_by, queue};
+ghost use Rattle.presence_journal.specs.Queue.{topic_of, is_current, first_waiting, diff_item, shout_item, queued, push_items, left_by, queue};
 ghost use Rattle.presence_journal.specs.Table.{IsLegal};
 ghost use Rattle.presence_journal_walks.specs.Pending.{waiting_of, IsAfter};
 ghost use Rattle.presence_journal_walks.specs.Rows.{AreNext, IsDiffAt, AreMadeAt};
@@ -12,7 +12,7 @@ use crate::diff::diff_rows;
 use crate::entries::diff_entry;
 use crate::lists::rows_of_entries;
 use crate::steps::is_callers;
-use crate::topics::{listed_topic, topic_after_entry};
+use crate::topics::{is_listed, listed_topic, topic_after_entry};
 use presence_base::{Dot, Row, Topic};
 use presence_journal::{
     Entry, Item, Journal, MAX_WAITING, RowDiff, SharedDiff, SharedShout, Start, Step,
@@ -217,6 +217,17 @@ fn after_entry(
     }
 }
 
+// What waits for a subscriber behind a Start.
+fn first_pending(alloc: Global, start: &Start, number: u64) -> Pending
+    ensures { waiting_of result ≡ first_waiting (is_current start.now.current number) }
+{
+    if is_listed(start.current.as_slice(), number) {
+        Pending::Items(Vec::new(alloc))
+    } else {
+        Pending::Behind
+    }
+}
+
 /// What waits for a present subscriber, whose topic is this one.
 pub fn walk_pending(
     alloc: Global,
@@ -231,7 +242,7 @@ pub fn walk_pending(
     let entries = journal.entries();
     let mut rows = rows_of_entries(alloc, start, &entries[..0], topic)?;
     let mut subscribed = listed_topic(start.subscribers.as_slice(), number);
-    let mut pending = Pending::Behind;
+    let mut pending = first_pending(alloc, start, number);
     for (place, entry) in entries.iter().enumerate() {
         let made = made_items(alloc, &mut rows, start, &entries[..place + 1], entry, topic)?;
         let heard = items_for(alloc, subscribed.is_some(), made);

@@ -1,6 +1,6 @@
 //! A subscriber's topic.
 ghost use Rattle.std.specs.Prelude.{◌≡◌, option_copied};
-ghost use Rattle.presence_journal.specs.Queue.{topic_at, topic_of, topic_after};
+ghost use Rattle.presence_journal.specs.Queue.{topic_at, is_current, topic_of, topic_after};
 
 use presence_base::Topic;
 use presence_journal::{Entry, Journal, Step};
@@ -36,6 +36,18 @@ pub fn listed_topic(subscribers: &[(u64, Topic)], number: u64) -> Option<&Topic>
         }
     }
     None
+}
+
+// Whether a number is listed.
+pub fn is_listed(numbers: &[u64], number: u64) -> bool
+    ensures { result ≡ is_current numbers.now number }
+{
+    for listed in numbers {
+        if number == *listed {
+            return true;
+        }
+    }
+    false
 }
 
 /// The topic of a present subscriber.

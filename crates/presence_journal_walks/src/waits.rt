@@ -1,13 +1,13 @@
 // What waits for a subscriber, counted entry by entry.
 ghost use Rattle.std.specs.Prelude.{◌≡◌, option_map, option_copied};
 ghost use Rattle.presence_journal.specs.History.{Begin, onto};
-ghost use Rattle.presence_journal.specs.Queue.{topic_of, queue, is_waiting};
+ghost use Rattle.presence_journal.specs.Queue.{is_current, first_waiting, topic_of, queue, is_waiting};
 ghost use Rattle.presence_journal_walks.specs.Waits.{makes_on, makes_one, tally_of, tally_pushed, tally_left, tally_after, tally_waits};
 
 use crate::again::any_again;
 use crate::changing::changes_topic;
 use crate::steps::{is_callers, is_news, is_on};
-use crate::topics::{listed_topic, topic_after_entry};
+use crate::topics::{is_listed, listed_topic, topic_after_entry};
 use presence_base::Topic;
 use presence_journal::{Entry, Journal, MAX_WAITING, Outcome, Start, Step};
 
@@ -111,6 +111,17 @@ fn next_tally(entry: &Entry, subscriber: u64, makes: bool, tally: Tally) -> Tall
     }
 }
 
+// What waits for a subscriber behind a Start.
+fn first_tally(start: &Start, subscriber: u64) -> Tally
+    ensures { result ≡ tally_of (first_waiting (is_current start.now.current subscriber)) }
+{
+    if is_listed(start.current.as_slice(), subscriber) {
+        Tally::Items(0)
+    } else {
+        Tally::Behind
+    }
+}
+
 // Goes over the entries for one subscriber.
 fn follow(journal: &Journal, subscriber: u64) -> Followed<'_>
     ensures topic { option_copied result.topic ≡ topic_of journal.now subscriber }
@@ -119,7 +130,7 @@ fn follow(journal: &Journal, subscriber: u64) -> Followed<'_>
     let start = journal.start();
     let entries = journal.entries();
     let mut topic = listed_topic(start.subscribers.as_slice(), subscriber);
-    let mut tally = Tally::Behind;
+    let mut tally = first_tally(start, subscriber);
     for (place, entry) in entries.iter().enumerate() {
         let makes = makes_one(
             start,

@@ -1,18 +1,19 @@
 -- What is told of rows has no number that isn't a whole one of 64 bits.
-use Rattle.std.proofs.Common.{◌≡◌, ℕ, length, List, [], ◌∷◌, ◌++◌, map, Bool, true, false, not, ◌&&◌, ◌||◌, nat_le, IsTrue, Option, Some, None, refl}
+use Rattle.std.proofs.Common.{◌≡◌, ℕ, List, [], ◌∷◌, ◌++◌, map, Bool, true, false, ◌||◌, IsTrue, Option, Some, None, refl}
 use Rattle.std.specs.declared.cmp.Ordering.{Ordering}
 use Rattle.std.specs.declared.cmp.Ordering.TheVariants.{Less, Equal, Greater}
 use Rattle.std.specs.Ordering.{match_ordering}
 use Rattle.std.specs.List.{fold}
 use Rattle.std.specs.Map.{remove_entry}
 use Rattle.std.specs.BTreeMap.{is_at, insert_entry}
-use Rattle.serde_json.specs.Data.{Data, null, boolean, number, string, array, object, Members, no_members, member, put as put_member, depth}
+use Rattle.serde_json.specs.Data.{Data, null, boolean, number, string, array, object, Members, no_members, member, put as put_member}
 use Rattle.serde_json.specs.View.{items_of}
-use Rattle.serde_json.specs.Written.{has_float, items_have_float, members_have_float, compact_text}
-use Rattle.presence_base.specs.Metas.{is_plain, is_meta}
+use Rattle.serde_json.specs.Written.{has_float, items_have_float, members_have_float}
+use Rattle.presence_base.specs.Metas.{is_meta}
 use Rattle.presence_base.specs.Order.{text_cmp}
 use Rattle.presence_base.specs.declared.dots.Dot.{Dot}
 use Rattle.presence_base.specs.declared.row.Row.{Row}
+use Rattle.presence_base.proofs.RefPlace.{meta_whole}
 use Rattle.presence_metas.specs.declared.tracked.TrackedMeta.{TrackedMeta}
 use Rattle.presence_metas.specs.Listing.{Listing, at, without_key, put}
 use Rattle.presence_metas.specs.Rows.{members_in, with_prev, tracked_of, add_row}
@@ -52,15 +53,6 @@ members_in_whole (array ds) h = refl
 members_in_whole (object ms) h = h
 
 -- ---- a row's meta
-
-last_of_three : (a b c d : Bool) → IsTrue (a && b && not c && d) → c ≡ false
-last_of_three true true true d h = cc
-last_of_three true true false d h = refl
-last_of_three true false c d h = cc
-last_of_three false b c d h = cc
-
-meta_whole : (d : Data) → IsTrue (is_meta d) → has_float d ≡ false
-meta_whole d h = last_of_three (is_plain d) (nat_le (depth d) 32) (has_float d) (nat_le (length (compact_text d)) 16384) h
 
 prev_whole : (prev : Option Dot) (ms : Members) → members_have_float ms ≡ false → members_have_float (with_prev prev ms) ≡ false
 prev_whole None ms h = h

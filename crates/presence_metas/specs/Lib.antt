@@ -1,5 +1,5 @@
 pub mod KeyOrder
-pub mod Places
+pub mod RefTexts
 pub mod Texts
 pub mod Codes
 pub mod Lists

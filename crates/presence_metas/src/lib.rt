@@ -15,7 +15,7 @@
 //! - `specs/Rows`: the lists that rows make
 //! - `specs/Values`: the objects that tell presences
 //!
-//! `specs/Texts` and `specs/Places` are of the texts row by row.
+//! `specs/Texts` and `specs/RefTexts` are of the texts row by row.
 #![tactic(auto)]
 
 mod frame;
@@ -23,7 +23,6 @@ pub mod laws;
 mod members;
 mod metas;
 mod mirror;
-mod mixed;
 mod order;
 mod presences;
 mod refs;

@@ -2,7 +2,7 @@
 ghost use Rattle.std.specs.Prelude.{◌≡◌, ◌++◌, OnOk, string_bytes};
 ghost use Rattle.json.specs.Print.{quoted as quoted_text};
 ghost use Rattle.presence_base.specs.Refs.{ref_of};
-ghost use Rattle.presence_metas.specs.Places.{prev_text, refs_text};
+ghost use Rattle.presence_metas.specs.RefTexts.{prev_text, refs_text};
 
 use phx_message::push_quoted;
 use presence_base::{Dot, ref_text};
@@ -30,7 +30,7 @@ fn push_prev(alloc: Global, text: &mut String, prev: &Option<Dot>) -> Result<(),
 }
 
 // Writes the members that name the references of a row.
-#[tactic(auto, unfolding(crate::specs::Places::refs_text))]
+#[tactic(auto, unfolding(crate::specs::RefTexts::refs_text))]
 pub(crate) fn push_refs(
     alloc: Global,
     text: &mut String,

@@ -3,3 +3,4 @@ mod Endings
 pub mod Places
 mod Bracketed
 pub mod Sharing
+pub mod Defaults

@@ -1,5 +1,5 @@
 //! What is said at the end.
-ghost use Rattle.std.specs.Prelude.{◌≡◌, ◌++◌, ◌∷◌, IfOk, Some, None, option_map, string_bytes};
+ghost use Rattle.std.specs.Prelude.{◌≡◌, ◌++◌, ◌∷◌, IfOk, Some, None, codes, option_map, string_bytes};
 ghost use Rattle.presence_node_main.specs.ServeEnds.{Names, TellsEnd};
 ghost use Rattle.presence_node_main.specs.Ending.{EndsFold, EndsServe, EndsStdio, EndsUsage, IsSilent, Prints, Says, Shows, ShowsAddress, serve_stream as serve_stream_in, stopped_status, stopped_words};
 
@@ -175,6 +175,21 @@ pub fn help_ending(text: String) -> Ending
     ensures { Prints Stream.Output (string_bytes text) 0 result }
 {
     printing(Stream::Output, text, 0)
+}
+
+/// A token goes to standard output.
+pub(crate) fn token_ending(token: String) -> Ending
+    ensures { Prints Stream.Output (string_bytes token) 0 result }
+{
+    printing(Stream::Output, token, 0)
+}
+
+/// What is wrong with a file of keys goes to standard error.
+pub(crate) fn keys_ending(alloc: Global, words: &str) -> Result<Ending, AllocError>
+    ensures { IfOk result (Prints Stream.Error (codes "presence_node: " ++ words.now) 1) }
+{
+    let text = format!(in alloc; "presence_node: {words}")?;
+    Ok(printing(Stream::Error, text, 1))
 }
 
 /// What is wrong with the words goes to standard error.

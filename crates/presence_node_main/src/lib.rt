@@ -3,15 +3,18 @@
 //!
 //! What its contracts cite: `specs/Ending` says which line goes to which stream, and with which status;
 //! `specs/Ends` how a run of the server at given options may end, and `specs/ServeEnds` with which status and line
-//! it ends, and when receipts are told as settled.
+//! it ends, and when receipts are told as settled; `specs/ClientSettings` what clients may do by the options, and
+//! `specs/Laws` that it is nothing by default; `specs/KeyFiles` what a file of keys gives.
 #![tactic(auto)]
 
 mod end;
 mod ending;
 mod error_stream;
+pub mod laws;
 mod running;
 mod serving;
 mod settling;
+mod token;
 mod words;
 
 pub use ending::{

@@ -1,19 +1,53 @@
 //! The program over the standard streams.
 use crate::end::serve_status_of;
 use crate::ending::{
-    Ending, Stream, fold_ending, help_ending, serve_ending, silent, stdio_ending, stopped_ending,
-    usage_ending,
+    Ending, Stream, fold_ending, help_ending, keys_ending, serve_ending, silent, stdio_ending,
+    stopped_ending, usage_ending,
 };
 use crate::error_stream::ErrorStream;
-use crate::serving::serve;
+use crate::serving::{secrets_of, serve};
+use crate::token::make_token;
 use crate::words::{texts_of, words_of};
 use hook_registry::{NoHooks, PresenceHooks};
+use number_lines::{UnmarkingWriter, client_lines, frame_lines};
 use presence_options::{FoldOptions, Options, ServeOptions, StdioOptions, UsageFault, options_of};
 use presence_server::ServeRuntime;
-use presence_stdio::{Outlets, ReferenceNotices, fold_status_of, run_fold, run_stdio, status_of};
+use presence_stdio::{
+    Outlets, ReferenceNotices, StdioFault, fold_status_of, run_fold, run_stdio, status_of,
+};
 use std::env::Env;
 use std::io;
 use std::io::BufReader;
+
+// Runs one session over the standard streams as they are.
+fn run_whole_numbers<R: Input + Print + Eprint + AllocGlobal, H: PresenceHooks>(
+    rt: &R,
+    hooks: &H,
+    options: &StdioOptions,
+) -> io::Result<Result<u64, StdioFault>> {
+    let alloc = rt.alloc();
+    let mut reader = BufReader::new(alloc, rt.reader())?;
+    let mut out = Outlets {
+        texts: io::writer(rt),
+        notes: ErrorStream { to: rt },
+    };
+    Ok(run_stdio(alloc, &mut reader, &mut out, hooks, options))
+}
+
+// Runs one session over the standard streams, of whose messages the session sees the marked texts.
+fn run_any_numbers<R: Input + Print + Eprint + AllocGlobal, H: PresenceHooks>(
+    rt: &R,
+    hooks: &H,
+    options: &StdioOptions,
+) -> io::Result<Result<u64, StdioFault>> {
+    let alloc = rt.alloc();
+    let mut reader = client_lines(alloc, BufReader::new(alloc, rt.reader())?);
+    let mut out = Outlets {
+        texts: UnmarkingWriter::new(alloc, io::writer(rt)),
+        notes: UnmarkingWriter::new(alloc, ErrorStream { to: rt }),
+    };
+    Ok(run_stdio(alloc, &mut reader, &mut out, hooks, options))
+}
 
 // Runs one session over the standard streams, with notices on standard error. Each reply goes out
 // before the next line is read, so nothing is buffered behind the session.
@@ -23,12 +57,11 @@ fn serve_stdio<R: Input + Print + Eprint + AllocGlobal, H: PresenceHooks>(
     options: &StdioOptions,
 ) -> io::Result<Ending> {
     let alloc = rt.alloc();
-    let mut reader = BufReader::new(alloc, rt.reader())?;
-    let mut out = Outlets {
-        texts: io::writer(rt),
-        notes: ErrorStream { to: rt },
+    let end = if options.fractions {
+        run_any_numbers(rt, hooks, options)?
+    } else {
+        run_whole_numbers(rt, hooks, options)?
     };
-    let end = run_stdio(alloc, &mut reader, &mut out, hooks, options);
     match stdio_ending(alloc, &end, options.explain) {
         Ok(ending) => Ok(ending),
         Err(_) => Ok(silent(end.err().map_or(2, |fault| status_of(&fault)))),
@@ -40,7 +73,13 @@ fn fold_stdin<R: Input + Print + AllocGlobal>(rt: &R, options: FoldOptions) -> i
     let alloc = rt.alloc();
     let mut reader = BufReader::new(alloc, rt.reader())?;
     let mut writer = io::writer(rt);
-    let end = run_fold(alloc, &mut reader, &mut writer);
+    let end = if options.fractions {
+        let mut reader = frame_lines(alloc, reader);
+        let mut writer = UnmarkingWriter::new(alloc, writer);
+        run_fold(alloc, &mut reader, &mut writer)
+    } else {
+        run_fold(alloc, &mut reader, &mut writer)
+    };
     match fold_ending(alloc, &end, options.explain) {
         Ok(ending) => Ok(ending),
         Err(_) => Ok(silent(end.err().map_or(2, |fault| fold_status_of(&fault)))),
@@ -54,7 +93,12 @@ where
     H: PresenceHooks + Sync,
 {
     let alloc = rt.alloc();
-    let end = serve(rt, alloc, hooks, options);
+    let secrets = match secrets_of(rt, alloc, options) {
+        Ok(secrets) => secrets,
+        Err(Ok(words)) => return Ok(keys_ending(alloc, words.as_str())?),
+        Err(Err(_)) => return Ok(silent(2)),
+    };
+    let end = serve(rt, alloc, hooks, options, &secrets);
     match serve_ending(alloc, end, options) {
         Ok(ending) => Ok(ending),
         Err(_) => Ok(silent(serve_status_of(end))),
@@ -89,6 +133,7 @@ where
         }
         Ok(Options::Fold(options)) => fold_stdin(rt, options),
         Ok(Options::Serve(options)) => serve_clients(rt, hooks, &options),
+        Ok(Options::Token(options)) => make_token(rt, rt.alloc(), &options),
         Err(fault) => Ok(usage_ending(fault)),
     }
 }

@@ -2,9 +2,13 @@
 
 mod belongings;
 mod fault;
+mod key_files;
 mod pieces;
 mod place;
 mod running;
+mod secrets;
 mod stopping;
 
+pub(crate) use key_files::KeyFile;
 pub use running::serve;
+pub(crate) use secrets::secrets_of;

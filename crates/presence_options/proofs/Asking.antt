@@ -8,13 +8,13 @@ use Rattle.clap.specs.declared.error.kind.ErrorKind.TheVariants.{DisplayHelp, Di
 use Rattle.clap.specs.declared.parser.matches.ArgMatches.{ArgMatches}
 use Rattle.clap.proofs.OnLiterals.{clap_on_literals}
 use Rattle.presence_options.specs.CommandLine.{program}
-use Rattle.presence_options.specs.Given.{AskFor, Calls, Chooses, ChoosesNone, HasCause, IsFor, IsHelpFor, IsNoHelp, Refused, RefusedFor, Refuses, ServeRefuses}
+use Rattle.presence_options.specs.Given.{AskFor, Calls, Chooses, ChoosesNone, HasCause, IsFor, IsHelpFor, IsNoHelp, Refused, RefusedFor, Refuses, ServeRefuses, TokenRefuses}
 use Rattle.presence_options.specs.declared.fault.UsageCause.{UsageCause}
-use Rattle.presence_options.specs.declared.fault.UsageCause.TheVariants.{Words, Name, Incarnation, Route, Port, LinkPort, Shards, Workers, LinkVersion, Peer, Origin, PerAddress, HandshakesPerSecond, PeerName, Proxy, LinkFrom, MemoryLimit, TopicRows, TopicBytes, Log, LogFormat, MetricsPort}
+use Rattle.presence_options.specs.declared.fault.UsageCause.TheVariants.{Words, Name, Incarnation, Route, Port, LinkPort, Shards, Workers, LinkVersion, Peer, Origin, PerAddress, HandshakesPerSecond, PeerName, Proxy, LinkFrom, MemoryLimit, TopicRows, TopicBytes, Log, LogFormat, MetricsPort, Event, KeyFile, Lifetime}
 use Rattle.presence_options.specs.declared.fault.UsageFault.{UsageFault}
 use Rattle.presence_options.specs.declared.fault.UsageFault.TheVariants.{Usage, Memory}
 use Rattle.presence_options.specs.declared.options.Options.{Options}
-use Rattle.presence_options.specs.declared.options.Options.TheVariants.{Help, Version, Bare, Stdio, Fold, Serve}
+use Rattle.presence_options.specs.declared.options.Options.TheVariants.{Help, Version, Bare, Stdio, Fold, Serve, Token}
 
 program_is_simple : is_simple_and_free program ≡ true
 unfolding clap_on_literals
@@ -54,6 +54,7 @@ help_asked c words e (Ok (Bare text)) is h told = among (fault_of program words)
 help_asked c words e (Ok (Stdio o)) is h told = absurd told
 help_asked c words e (Ok (Fold o)) is h told = absurd told
 help_asked c words e (Ok (Serve o)) is h told = absurd told
+help_asked c words e (Ok (Token o)) is h told = absurd told
 help_asked c words e (Err f) is h told = tt
 
 pub words_refused : (c : Command) (words : List Text) (e : Error) (r : Result Options UsageFault) → app_of c ≡ program → (is_simple_and_free (app_of c) ≡ true → HasKind (fault_of (app_of c) words) e)
@@ -80,6 +81,7 @@ chosen_asked c words m name rows (Ok (Bare text)) is h met chosen = absurd chose
 chosen_asked c words m name rows (Ok (Stdio o)) is h met chosen = (rows, calls c words m name (codes "stdio") rows is h met chosen.0, chosen.1)
 chosen_asked c words m name rows (Ok (Fold o)) is h met chosen = (rows, calls c words m name (codes "fold") rows is h met chosen.0, chosen.1)
 chosen_asked c words m name rows (Ok (Serve o)) is h met chosen = (rows, calls c words m name (codes "serve") rows is h met chosen.0, chosen.1)
+chosen_asked c words m name rows (Ok (Token o)) is h met chosen = (rows, calls c words m name (codes "token") rows is h met chosen.0, chosen.1)
 
 -- the words that name another command don't name this one
 other_name : (words : List Text) (name k : Text) (rows rest : List Row) → subcommand_of program words ≡ Some (name, rows) → (name ≡ k → ⊥) → Calls words k rest → ⊥
@@ -92,12 +94,14 @@ other_name words name k rows rest met other named = other (same_name (Some (name
     same_name : (x y : Option (Text × List Row)) → x ≡ y → named_in x ≡ named_in y
     same_name x y e = ap named_in e
 
--- a refusal of `stdio` or of `serve`, as one of the words
+-- a refusal of `stdio`, of `serve` or of `token`, as one of the words
 why_refused : (c : Command) (words : List Text) (m : ArgMatches) (name : Text) (rows : List Row) (cause : UsageCause) → app_of c ≡ program → HasMatchesOf (app_of c) words m → Some (name, rows) ≡ subcommand_rows_of m
-    → ((name ≡ codes "stdio") × Refuses rows cause) ⊎ ((name ≡ codes "serve") × ServeRefuses rows cause)
-    → ((rest : List Row) × Calls words (codes "stdio") rest × Refuses rest cause) ⊎ ((rest : List Row) × Calls words (codes "serve") rest × ServeRefuses rest cause)
+    → ((name ≡ codes "stdio") × Refuses rows cause) ⊎ (((name ≡ codes "serve") × ServeRefuses rows cause) ⊎ ((name ≡ codes "token") × TokenRefuses rows cause))
+    → ((rest : List Row) × Calls words (codes "stdio") rest × Refuses rest cause)
+    ⊎ (((rest : List Row) × Calls words (codes "serve") rest × ServeRefuses rest cause) ⊎ ((rest : List Row) × Calls words (codes "token") rest × TokenRefuses rest cause))
 why_refused c words m name rows cause is h met (inl a) = inl (rows, calls c words m name (codes "stdio") rows is h met a.0, a.1)
-why_refused c words m name rows cause is h met (inr b) = inr (rows, calls c words m name (codes "serve") rows is h met b.0, b.1)
+why_refused c words m name rows cause is h met (inr (inl b)) = inr (inl (rows, calls c words m name (codes "serve") rows is h met b.0, b.1))
+why_refused c words m name rows cause is h met (inr (inr b)) = inr (inr (rows, calls c words m name (codes "token") rows is h met b.0, b.1))
 
 pub chosen_refused : (c : Command) (words : List Text) (m : ArgMatches) (name : Text) (rows : List Row) (r : Result Options UsageFault) → app_of c ≡ program → HasMatchesOf (app_of c) words m → Some (name, rows) ≡ subcommand_rows_of m
     → IfErr r (ChoosesNone name rows) → IfErr r (Refused words)
@@ -109,6 +113,7 @@ chosen_refused c words m name rows (Err (Usage Words text)) is h met none =
       stdio = λ rest. other_name words name (codes "stdio") rows rest named none.0;
       fold = λ rest. other_name words name (codes "fold") rows rest named none.1;
       serve = λ rest. other_name words name (codes "serve") rows rest named none.2;
+      token = λ rest. other_name words name (codes "token") rows rest named none.3;
     })
 chosen_refused c words m name rows (Err (Usage Name text)) is h met none = why_refused c words m name rows Name is h met none
 chosen_refused c words m name rows (Err (Usage Incarnation text)) is h met none = why_refused c words m name rows Incarnation is h met none
@@ -131,13 +136,16 @@ chosen_refused c words m name rows (Err (Usage TopicBytes text)) is h met none =
 chosen_refused c words m name rows (Err (Usage Log text)) is h met none = why_refused c words m name rows Log is h met none
 chosen_refused c words m name rows (Err (Usage LogFormat text)) is h met none = why_refused c words m name rows LogFormat is h met none
 chosen_refused c words m name rows (Err (Usage MetricsPort text)) is h met none = why_refused c words m name rows MetricsPort is h met none
+chosen_refused c words m name rows (Err (Usage Event text)) is h met none = why_refused c words m name rows Event is h met none
+chosen_refused c words m name rows (Err (Usage KeyFile text)) is h met none = why_refused c words m name rows KeyFile is h met none
+chosen_refused c words m name rows (Err (Usage Lifetime text)) is h met none = why_refused c words m name rows Lifetime is h met none
 
 -- no command is named
 pub none_named : (c : Command) (words : List Text) (m : ArgMatches) (f : UsageFault) → app_of c ≡ program → HasMatchesOf (app_of c) words m → None ≡ subcommand_rows_of m → HasCause Words f → Refused words f
 none_named c words m Memory is h met cause_is = tt
 none_named c words m (Usage cause text) is h met cause_is =
     let none = sym (command_named c words m is h) ∙ sym met in
-    subst (RefusedFor words) (sym cause_is) (inr (record { stdio = λ rest named. none_some (codes "stdio", rest) (sym none ∙ named); fold = λ rest named. none_some (codes "fold", rest) (sym none ∙ named); serve = λ rest named. none_some (codes "serve", rest) (sym none ∙ named) }))
+    subst (RefusedFor words) (sym cause_is) (inr (record { stdio = λ rest named. none_some (codes "stdio", rest) (sym none ∙ named); fold = λ rest named. none_some (codes "fold", rest) (sym none ∙ named); serve = λ rest named. none_some (codes "serve", rest) (sym none ∙ named); token = λ rest named. none_some (codes "token", rest) (sym none ∙ named) }))
   where
     none_some : (x : Text × List Row) → None ≡ Some x → ⊥
     none_some x e = cc

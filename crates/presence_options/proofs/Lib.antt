@@ -6,3 +6,4 @@ pub mod Peers
 pub mod Origins
 pub mod Serving
 pub mod Written
+pub mod Named

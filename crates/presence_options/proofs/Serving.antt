@@ -1,8 +1,8 @@
 -- Why a server's options are refused, from what was looked at before.
 use Rattle.std.proofs.Common.{◌≡◌, ◌⊎◌, inl, inr, ℕ, List, IsTrue, codes, false, subst, sym}
 use Rattle.clap.specs.Words.{Row}
-use Rattle.presence_options.specs.Given.{AllArePeers, AreFewOrigins, AreFewPatterns, AreHandshakes, AreLinkFrom, AreOtherPeers, AreProxies, IsFrugal, IsUntold, IsWasteful, ArePeers, ArePorts, AreShards, AreWorkers, ChoosesNone, IsEdgeWrong, IsFor, IsLinkVersion, IsNamed, IsNode, IsPerAddress, IsServedWrong, name_given, origins_given, patterns_given, peers_given}
-use Rattle.presence_options.specs.declared.fault.UsageCause.TheVariants.{Words, Name, Incarnation, Route, Port, LinkPort, Shards, Workers, LinkVersion, Peer, Origin, PerAddress, HandshakesPerSecond, PeerName, Proxy, LinkFrom, MemoryLimit, TopicRows, TopicBytes, Log, LogFormat, MetricsPort}
+use Rattle.presence_options.specs.Given.{AllArePeers, AreAllNames, AreFewOrigins, AreFewPatterns, AreHandshakes, AreLinkFrom, AreOtherPeers, AreProxies, IsFrugal, IsTold, IsUnnamed, IsUntold, IsWasteful, ArePeers, ArePorts, AreShards, AreWorkers, ChoosesNone, IsEdgeWrong, IsFor, IsLinkVersion, IsNamed, IsNode, IsPerAddress, IsServedWrong, IsTokenWrong, name_given, origins_given, patterns_given, peers_given}
+use Rattle.presence_options.specs.declared.fault.UsageCause.TheVariants.{Words, Name, Incarnation, Route, Port, LinkPort, Shards, Workers, LinkVersion, Peer, Origin, PerAddress, HandshakesPerSecond, PeerName, Proxy, LinkFrom, MemoryLimit, TopicRows, TopicBytes, Log, LogFormat, MetricsPort, Event, KeyFile, Lifetime}
 use Rattle.presence_options.specs.Limits.{AreRoutes, is_peer_name, numbered}
 use Rattle.presence_options.specs.declared.options.PeerOption.{PeerOption}
 use Rattle.presence_options.proofs.Patterns.{few_patterns}
@@ -53,9 +53,10 @@ own_peer rows name peers (Usage cause text) node is are twice =
 own_peer rows name peers Memory node is are twice = tt
 
 -- what stands beside the node itself is wrong for a cause of its own
-none_of : {A : Type 0} → (⊥ ⊎ (A × ⊥)) → ⊥
+none_of : {A B C : Type 0} → (⊥ ⊎ ((A × ⊥) ⊎ (B × C × ⊥))) → ⊥
 none_of (inl h) = h
-none_of (inr h) = h.1
+none_of (inr (inl h)) = h.1
+none_of (inr (inr h)) = h.2
 
 pub edge_wrong : (rows : List Row) (fault : UsageFault) → IsNode rows → AreOtherPeers rows → IsEdgeWrong rows fault
     → IsServedWrong rows fault
@@ -81,6 +82,9 @@ edge_wrong rows (Usage TopicBytes text) node others wrong = (node, others, wrong
 edge_wrong rows (Usage Log text) node others wrong = (node, others, wrong)
 edge_wrong rows (Usage LogFormat text) node others wrong = (node, others, wrong)
 edge_wrong rows (Usage MetricsPort text) node others wrong = (node, others, wrong)
+edge_wrong rows (Usage Event text) node others wrong = (node, others, wrong)
+edge_wrong rows (Usage KeyFile text) node others wrong = (node, others, wrong)
+edge_wrong rows (Usage Lifetime text) node others wrong = (node, others, wrong)
 edge_wrong rows Memory node others wrong = tt
 
 -- the same, from what was looked at of the node itself by parts, and of peers that are these
@@ -105,28 +109,31 @@ edge_refused rows name routes read peers fault same wrong others is are routed w
 -- what is told, or taken, wrongly is wrong of what stands beside the node itself
 pub untold_edge : (rows : List Row) (fault : UsageFault) → AreProxies rows → AreLinkFrom rows → IsFrugal rows → IsUntold rows fault
     → IsEdgeWrong rows fault
-untold_edge rows (Usage Words text) proxies links frugal wrong = (proxies, links, inr (frugal, wrong))
-untold_edge rows (Usage Name text) proxies links frugal wrong = (proxies, links, inr (frugal, wrong))
-untold_edge rows (Usage Incarnation text) proxies links frugal wrong = (proxies, links, inr (frugal, wrong))
-untold_edge rows (Usage Route text) proxies links frugal wrong = (proxies, links, inr (frugal, wrong))
-untold_edge rows (Usage Port text) proxies links frugal wrong = (proxies, links, inr (frugal, wrong))
-untold_edge rows (Usage LinkPort text) proxies links frugal wrong = (proxies, links, inr (frugal, wrong))
-untold_edge rows (Usage Shards text) proxies links frugal wrong = (proxies, links, inr (frugal, wrong))
-untold_edge rows (Usage Workers text) proxies links frugal wrong = (proxies, links, inr (frugal, wrong))
-untold_edge rows (Usage LinkVersion text) proxies links frugal wrong = (proxies, links, inr (frugal, wrong))
-untold_edge rows (Usage Peer text) proxies links frugal wrong = (proxies, links, inr (frugal, wrong))
-untold_edge rows (Usage Origin text) proxies links frugal wrong = (proxies, links, inr (frugal, wrong))
-untold_edge rows (Usage PerAddress text) proxies links frugal wrong = (proxies, links, inr (frugal, wrong))
-untold_edge rows (Usage HandshakesPerSecond text) proxies links frugal wrong = (proxies, links, inr (frugal, wrong))
-untold_edge rows (Usage PeerName text) proxies links frugal wrong = (proxies, links, inr (frugal, wrong))
+untold_edge rows (Usage Words text) proxies links frugal wrong = (proxies, links, inr (inl (frugal, wrong)))
+untold_edge rows (Usage Name text) proxies links frugal wrong = (proxies, links, inr (inl (frugal, wrong)))
+untold_edge rows (Usage Incarnation text) proxies links frugal wrong = (proxies, links, inr (inl (frugal, wrong)))
+untold_edge rows (Usage Route text) proxies links frugal wrong = (proxies, links, inr (inl (frugal, wrong)))
+untold_edge rows (Usage Port text) proxies links frugal wrong = (proxies, links, inr (inl (frugal, wrong)))
+untold_edge rows (Usage LinkPort text) proxies links frugal wrong = (proxies, links, inr (inl (frugal, wrong)))
+untold_edge rows (Usage Shards text) proxies links frugal wrong = (proxies, links, inr (inl (frugal, wrong)))
+untold_edge rows (Usage Workers text) proxies links frugal wrong = (proxies, links, inr (inl (frugal, wrong)))
+untold_edge rows (Usage LinkVersion text) proxies links frugal wrong = (proxies, links, inr (inl (frugal, wrong)))
+untold_edge rows (Usage Peer text) proxies links frugal wrong = (proxies, links, inr (inl (frugal, wrong)))
+untold_edge rows (Usage Origin text) proxies links frugal wrong = (proxies, links, inr (inl (frugal, wrong)))
+untold_edge rows (Usage PerAddress text) proxies links frugal wrong = (proxies, links, inr (inl (frugal, wrong)))
+untold_edge rows (Usage HandshakesPerSecond text) proxies links frugal wrong = (proxies, links, inr (inl (frugal, wrong)))
+untold_edge rows (Usage PeerName text) proxies links frugal wrong = (proxies, links, inr (inl (frugal, wrong)))
 untold_edge rows (Usage Proxy text) proxies links frugal wrong = absurd wrong
 untold_edge rows (Usage LinkFrom text) proxies links frugal wrong = absurd wrong
-untold_edge rows (Usage MemoryLimit text) proxies links frugal wrong = (proxies, links, inr (frugal, wrong))
-untold_edge rows (Usage TopicRows text) proxies links frugal wrong = (proxies, links, inr (frugal, wrong))
-untold_edge rows (Usage TopicBytes text) proxies links frugal wrong = (proxies, links, inr (frugal, wrong))
-untold_edge rows (Usage Log text) proxies links frugal wrong = (proxies, links, inr (frugal, wrong))
-untold_edge rows (Usage LogFormat text) proxies links frugal wrong = (proxies, links, inr (frugal, wrong))
-untold_edge rows (Usage MetricsPort text) proxies links frugal wrong = (proxies, links, inr (frugal, wrong))
+untold_edge rows (Usage MemoryLimit text) proxies links frugal wrong = (proxies, links, inr (inl (frugal, wrong)))
+untold_edge rows (Usage TopicRows text) proxies links frugal wrong = (proxies, links, inr (inl (frugal, wrong)))
+untold_edge rows (Usage TopicBytes text) proxies links frugal wrong = (proxies, links, inr (inl (frugal, wrong)))
+untold_edge rows (Usage Log text) proxies links frugal wrong = (proxies, links, inr (inl (frugal, wrong)))
+untold_edge rows (Usage LogFormat text) proxies links frugal wrong = (proxies, links, inr (inl (frugal, wrong)))
+untold_edge rows (Usage MetricsPort text) proxies links frugal wrong = (proxies, links, inr (inl (frugal, wrong)))
+untold_edge rows (Usage Event text) proxies links frugal wrong = (proxies, links, inr (inl (frugal, wrong)))
+untold_edge rows (Usage KeyFile text) proxies links frugal wrong = (proxies, links, inr (inl (frugal, wrong)))
+untold_edge rows (Usage Lifetime text) proxies links frugal wrong = (proxies, links, inr (inl (frugal, wrong)))
 untold_edge rows Memory proxies links frugal wrong = tt
 
 pub wasteful_edge : (rows : List Row) (fault : UsageFault) → AreProxies rows → AreLinkFrom rows → IsWasteful rows fault → IsEdgeWrong rows fault
@@ -152,32 +159,105 @@ wasteful_edge rows (Usage TopicBytes text) proxies links wrong = (proxies, links
 wasteful_edge rows (Usage Log text) proxies links wrong = (proxies, links, inl wrong)
 wasteful_edge rows (Usage LogFormat text) proxies links wrong = (proxies, links, inl wrong)
 wasteful_edge rows (Usage MetricsPort text) proxies links wrong = (proxies, links, inl wrong)
+wasteful_edge rows (Usage Event text) proxies links wrong = (proxies, links, inl wrong)
+wasteful_edge rows (Usage KeyFile text) proxies links wrong = (proxies, links, inl wrong)
+wasteful_edge rows (Usage Lifetime text) proxies links wrong = (proxies, links, inl wrong)
 wasteful_edge rows Memory proxies links wrong = tt
+
+-- and so are names that are none
+unnamed : (rows : List Row) (fault : UsageFault) → AreProxies rows → AreLinkFrom rows → IsFrugal rows → IsTold rows → IsUnnamed rows fault
+    → IsEdgeWrong rows fault
+unnamed rows (Usage Words text) proxies links frugal told wrong = absurd wrong
+unnamed rows (Usage Name text) proxies links frugal told wrong = absurd wrong
+unnamed rows (Usage Incarnation text) proxies links frugal told wrong = absurd wrong
+unnamed rows (Usage Route text) proxies links frugal told wrong = absurd wrong
+unnamed rows (Usage Port text) proxies links frugal told wrong = absurd wrong
+unnamed rows (Usage LinkPort text) proxies links frugal told wrong = absurd wrong
+unnamed rows (Usage Shards text) proxies links frugal told wrong = absurd wrong
+unnamed rows (Usage Workers text) proxies links frugal told wrong = absurd wrong
+unnamed rows (Usage LinkVersion text) proxies links frugal told wrong = absurd wrong
+unnamed rows (Usage Peer text) proxies links frugal told wrong = absurd wrong
+unnamed rows (Usage Origin text) proxies links frugal told wrong = absurd wrong
+unnamed rows (Usage PerAddress text) proxies links frugal told wrong = absurd wrong
+unnamed rows (Usage HandshakesPerSecond text) proxies links frugal told wrong = absurd wrong
+unnamed rows (Usage PeerName text) proxies links frugal told wrong = absurd wrong
+unnamed rows (Usage Proxy text) proxies links frugal told wrong = absurd wrong
+unnamed rows (Usage LinkFrom text) proxies links frugal told wrong = absurd wrong
+unnamed rows (Usage MemoryLimit text) proxies links frugal told wrong = absurd wrong
+unnamed rows (Usage TopicRows text) proxies links frugal told wrong = absurd wrong
+unnamed rows (Usage TopicBytes text) proxies links frugal told wrong = absurd wrong
+unnamed rows (Usage Log text) proxies links frugal told wrong = absurd wrong
+unnamed rows (Usage LogFormat text) proxies links frugal told wrong = absurd wrong
+unnamed rows (Usage MetricsPort text) proxies links frugal told wrong = absurd wrong
+unnamed rows (Usage Event text) proxies links frugal told wrong = (proxies, links, inr (inr (frugal, told, wrong)))
+unnamed rows (Usage KeyFile text) proxies links frugal told wrong = absurd wrong
+unnamed rows (Usage Lifetime text) proxies links frugal told wrong = absurd wrong
+unnamed rows Memory proxies links frugal told wrong = tt
+
+unnamed_by : (rows : List Row) (fault : UsageFault) → IsFor Event (AreAllNames rows → ⊥) fault → IsUnnamed rows fault
+unnamed_by rows (Usage cause text) wrong = rw wrong.0 wrong.1
+unnamed_by rows Memory wrong = tt
+
+pub unnamed_edge : (rows : List Row) (fault : UsageFault) → AreProxies rows → AreLinkFrom rows → IsFrugal rows → IsTold rows
+    → IsFor Event (AreAllNames rows → ⊥) fault → IsEdgeWrong rows fault
+unnamed_edge rows fault proxies links frugal told wrong = unnamed rows fault proxies links frugal told (unnamed_by rows fault wrong)
 
 -- ---- the command
 
 pub serve_chosen : (name : List ℕ) (rows : List Row) (fault : UsageFault) → name ≡ codes "serve" → IsServedWrong rows fault
     → ChoosesNone name rows fault
 serve_chosen name rows (Usage Words text) is wrong = absurd wrong
-serve_chosen name rows (Usage Name text) is wrong = inr (is, wrong)
-serve_chosen name rows (Usage Incarnation text) is wrong = inr (is, wrong)
-serve_chosen name rows (Usage Route text) is wrong = inr (is, wrong)
-serve_chosen name rows (Usage Port text) is wrong = inr (is, wrong)
-serve_chosen name rows (Usage LinkPort text) is wrong = inr (is, wrong)
-serve_chosen name rows (Usage Shards text) is wrong = inr (is, wrong)
-serve_chosen name rows (Usage Workers text) is wrong = inr (is, wrong)
-serve_chosen name rows (Usage LinkVersion text) is wrong = inr (is, wrong)
-serve_chosen name rows (Usage Peer text) is wrong = inr (is, wrong)
-serve_chosen name rows (Usage Origin text) is wrong = inr (is, wrong)
-serve_chosen name rows (Usage PerAddress text) is wrong = inr (is, wrong)
-serve_chosen name rows (Usage HandshakesPerSecond text) is wrong = inr (is, wrong)
-serve_chosen name rows (Usage PeerName text) is wrong = inr (is, wrong)
-serve_chosen name rows (Usage Proxy text) is wrong = inr (is, wrong)
-serve_chosen name rows (Usage LinkFrom text) is wrong = inr (is, wrong)
-serve_chosen name rows (Usage MemoryLimit text) is wrong = inr (is, wrong)
-serve_chosen name rows (Usage TopicRows text) is wrong = inr (is, wrong)
-serve_chosen name rows (Usage TopicBytes text) is wrong = inr (is, wrong)
-serve_chosen name rows (Usage Log text) is wrong = inr (is, wrong)
-serve_chosen name rows (Usage LogFormat text) is wrong = inr (is, wrong)
-serve_chosen name rows (Usage MetricsPort text) is wrong = inr (is, wrong)
+serve_chosen name rows (Usage Name text) is wrong = inr (inl (is, wrong))
+serve_chosen name rows (Usage Incarnation text) is wrong = inr (inl (is, wrong))
+serve_chosen name rows (Usage Route text) is wrong = inr (inl (is, wrong))
+serve_chosen name rows (Usage Port text) is wrong = inr (inl (is, wrong))
+serve_chosen name rows (Usage LinkPort text) is wrong = inr (inl (is, wrong))
+serve_chosen name rows (Usage Shards text) is wrong = inr (inl (is, wrong))
+serve_chosen name rows (Usage Workers text) is wrong = inr (inl (is, wrong))
+serve_chosen name rows (Usage LinkVersion text) is wrong = inr (inl (is, wrong))
+serve_chosen name rows (Usage Peer text) is wrong = inr (inl (is, wrong))
+serve_chosen name rows (Usage Origin text) is wrong = inr (inl (is, wrong))
+serve_chosen name rows (Usage PerAddress text) is wrong = inr (inl (is, wrong))
+serve_chosen name rows (Usage HandshakesPerSecond text) is wrong = inr (inl (is, wrong))
+serve_chosen name rows (Usage PeerName text) is wrong = inr (inl (is, wrong))
+serve_chosen name rows (Usage Proxy text) is wrong = inr (inl (is, wrong))
+serve_chosen name rows (Usage LinkFrom text) is wrong = inr (inl (is, wrong))
+serve_chosen name rows (Usage MemoryLimit text) is wrong = inr (inl (is, wrong))
+serve_chosen name rows (Usage TopicRows text) is wrong = inr (inl (is, wrong))
+serve_chosen name rows (Usage TopicBytes text) is wrong = inr (inl (is, wrong))
+serve_chosen name rows (Usage Log text) is wrong = inr (inl (is, wrong))
+serve_chosen name rows (Usage LogFormat text) is wrong = inr (inl (is, wrong))
+serve_chosen name rows (Usage MetricsPort text) is wrong = inr (inl (is, wrong))
+serve_chosen name rows (Usage Event text) is wrong = inr (inl (is, wrong))
+serve_chosen name rows (Usage KeyFile text) is wrong = inr (inl (is, wrong))
+serve_chosen name rows (Usage Lifetime text) is wrong = inr (inl (is, wrong))
 serve_chosen name rows Memory is wrong = tt
+
+pub token_chosen : (name : List ℕ) (rows : List Row) (fault : UsageFault) → name ≡ codes "token" → IsTokenWrong rows fault
+    → ChoosesNone name rows fault
+token_chosen name rows (Usage KeyFile text) is wrong = inr (inr (is, wrong))
+token_chosen name rows (Usage Route text) is wrong = inr (inr (is, wrong))
+token_chosen name rows (Usage Lifetime text) is wrong = inr (inr (is, wrong))
+token_chosen name rows (Usage Words text) is wrong = absurd wrong
+token_chosen name rows (Usage Name text) is wrong = absurd wrong
+token_chosen name rows (Usage Incarnation text) is wrong = absurd wrong
+token_chosen name rows (Usage Port text) is wrong = absurd wrong
+token_chosen name rows (Usage LinkPort text) is wrong = absurd wrong
+token_chosen name rows (Usage Shards text) is wrong = absurd wrong
+token_chosen name rows (Usage Workers text) is wrong = absurd wrong
+token_chosen name rows (Usage LinkVersion text) is wrong = absurd wrong
+token_chosen name rows (Usage Peer text) is wrong = absurd wrong
+token_chosen name rows (Usage Origin text) is wrong = absurd wrong
+token_chosen name rows (Usage PerAddress text) is wrong = absurd wrong
+token_chosen name rows (Usage HandshakesPerSecond text) is wrong = absurd wrong
+token_chosen name rows (Usage PeerName text) is wrong = absurd wrong
+token_chosen name rows (Usage Proxy text) is wrong = absurd wrong
+token_chosen name rows (Usage LinkFrom text) is wrong = absurd wrong
+token_chosen name rows (Usage MemoryLimit text) is wrong = absurd wrong
+token_chosen name rows (Usage TopicRows text) is wrong = absurd wrong
+token_chosen name rows (Usage TopicBytes text) is wrong = absurd wrong
+token_chosen name rows (Usage Log text) is wrong = absurd wrong
+token_chosen name rows (Usage LogFormat text) is wrong = absurd wrong
+token_chosen name rows (Usage MetricsPort text) is wrong = absurd wrong
+token_chosen name rows (Usage Event text) is wrong = absurd wrong
+token_chosen name rows Memory is wrong = tt

@@ -15,15 +15,16 @@ flag_rule name = record (new_rule name) { long = Some name; action = Some SetTru
 
 abbrev pub stdio_app : App
 stdio_app =
-    with_rule (with_rule (with_rule (with_rule (with_rule (new_app (codes "stdio"))
+    with_rule (with_rule (with_rule (with_rule (with_rule (with_rule (new_app (codes "stdio"))
     (option_rule (codes "name") Set))
     (option_rule (codes "incarnation") Set))
     (option_rule (codes "route") Append))
     (flag_rule (codes "notices")))
-    (flag_rule (codes "explain"))
+    (flag_rule (codes "explain")))
+    (flag_rule (codes "fractions"))
 
 abbrev pub fold_app : App
-fold_app = with_rule (new_app (codes "fold")) (flag_rule (codes "explain"))
+fold_app = with_rule (with_rule (new_app (codes "fold")) (flag_rule (codes "explain"))) (flag_rule (codes "fractions"))
 
 -- the options of the node itself
 abbrev pub served_app : App
@@ -50,8 +51,8 @@ linked_app =
     (option_rule (codes "handshakes") Set)
 
 -- and those of proxies, of what everybody together may take, and of what an operator is told
-abbrev pub serve_app : App
-serve_app =
+abbrev pub watched_app : App
+watched_app =
     with_rule (with_rule (with_rule (with_rule (with_rule (with_rule (with_rule (with_rule linked_app
     (option_rule (codes "proxy") Append))
     (option_rule (codes "link-from") Append))
@@ -62,9 +63,32 @@ serve_app =
     (option_rule (codes "log-format") Set))
     (option_rule (codes "metrics-port") Set)
 
+abbrev pub token_app : App
+token_app =
+    with_rule (with_rule (with_rule (with_rule (new_app (codes "token"))
+    (option_rule (codes "key") Set))
+    (option_rule (codes "sub") Set))
+    (option_rule (codes "topics") Append))
+    (option_rule (codes "for") Set)
+
+-- and those of what clients may do, and of the files of keys
+abbrev pub serve_app : App
+serve_app =
+    with_rule (with_rule (with_rule (with_rule (with_rule (with_rule (with_rule (with_rule watched_app
+    (flag_rule (codes "phoenix")))
+    (flag_rule (codes "fractions")))
+    (flag_rule (codes "match-joins")))
+    (option_rule (codes "event") Append))
+    (option_rule (codes "answered") Append))
+    (option_rule (codes "to-others") Append))
+    (option_rule (codes "token-keys") Set))
+    (option_rule (codes "link-keys") Set)
+
 -- the program itself, which is nothing without a command, and has a version
 abbrev pub top_app : App
 top_app = on_top (λ s. record s { subcommand_required = true; has_version = true }) (new_app (codes "presence_node"))
 
 abbrev pub program : App
-program = with_subcommand (with_subcommand (with_subcommand top_app stdio_app.top) fold_app.top) serve_app.top
+program =
+    with_subcommand (with_subcommand (with_subcommand (with_subcommand top_app stdio_app.top) fold_app.top) serve_app.top)
+    token_app.top

@@ -1,5 +1,6 @@
 -- Which options the words of a command line give, and which words are refused.
-use Rattle.std.specs.Prelude.{◌≡◌, ◌⊎◌, ◌≤◌, ◌<◌, ℕ, List, [], ◌∷◌, ◌++◌, Bool, false, true, cond, is_some, IsTrue, length, codes, string_bytes, unwrap_or, map, option_map, Option, Some, None}
+use Rattle.std.specs.Prelude.{◌≡◌, ◌⊎◌, ◌≤◌, ◌<◌, ◌+◌, ◌-◌, ◌*◌, ◌==◌, ◌&&◌, min, nat_le, ℕ, List, [], ◌∷◌, ◌++◌, ◌||◌, Bool, false, true, cond, is_some, IsTrue, length, codes, string_bytes, unwrap_or, map, option_map, Option, Some, None}
+use Rattle.std.specs.Char.{is_ascii_digit}
 use Rattle.std.specs.List.{AllByRecursion}
 use Rattle.std.specs.Net.Addr.{IsCanonicalOf, MatchIp}
 use Rattle.std.specs.Net.Grammar.{IsIpText}
@@ -15,17 +16,18 @@ use Rattle.presence_base.specs.Names.{is_node_name}
 use Rattle.presence_base.specs.Refs.{IsCount}
 use Rattle.presence_options.specs.CommandLine.{program}
 use Rattle.presence_options.specs.Hosts.{is_host}
-use Rattle.presence_options.specs.Limits.{is_peer_name, numbered}
+use Rattle.presence_options.specs.Limits.{AreEventNames, is_peer_name, numbered}
 use Rattle.presence_options.specs.Origins.{AreOrigins}
 use Rattle.presence_options.specs.declared.addresses.AddressRule.{AddressRule}
 use Rattle.presence_options.specs.declared.command_line.Edge.{Edge}
 use Rattle.presence_options.specs.declared.fault.UsageCause.{UsageCause}
-use Rattle.presence_options.specs.declared.fault.UsageCause.TheVariants.{Words, Name, Incarnation, Route, Port, LinkPort, Shards, Workers, LinkVersion, Peer, Origin, PerAddress, HandshakesPerSecond, PeerName, Proxy, LinkFrom, MemoryLimit, TopicRows, TopicBytes, Log, LogFormat, MetricsPort}
+use Rattle.presence_options.specs.declared.fault.UsageCause.TheVariants.{Words, Name, Incarnation, Route, Port, LinkPort, Shards, Workers, LinkVersion, Peer, Origin, PerAddress, HandshakesPerSecond, PeerName, Proxy, LinkFrom, MemoryLimit, TopicRows, TopicBytes, Log, LogFormat, MetricsPort, Event, KeyFile, Lifetime}
 use Rattle.presence_options.specs.declared.fault.UsageFault.{UsageFault}
 use Rattle.presence_options.specs.declared.fault.UsageFault.TheVariants.{Usage, Memory}
 use Rattle.presence_options.specs.declared.options.Options.{Options}
-use Rattle.presence_options.specs.declared.options.Options.TheVariants.{Help, Version, Bare, Stdio, Fold, Serve}
+use Rattle.presence_options.specs.declared.options.Options.TheVariants.{Help, Version, Bare, Stdio, Fold, Serve, Token}
 use Rattle.presence_options.specs.declared.options.Budgets.{Budgets}
+use Rattle.presence_options.specs.declared.options.ClientOptions.{ClientOptions}
 use Rattle.presence_options.specs.declared.options.LineFormat.{LineFormat}
 use Rattle.presence_options.specs.declared.options.LineFormat.TheVariants.{Plain, Json}
 use Rattle.presence_options.specs.declared.options.Logged.{Logged}
@@ -33,10 +35,12 @@ use Rattle.presence_options.specs.declared.options.Logged.TheVariants.{Refusals,
 use Rattle.presence_options.specs.declared.options.PeerOption.{PeerOption}
 use Rattle.presence_options.specs.declared.options.Reports.{Reports}
 use Rattle.presence_options.specs.declared.options.ServeOptions.{ServeOptions}
+use Rattle.presence_options.specs.declared.options.FoldOptions.{FoldOptions}
 use Rattle.presence_options.specs.declared.options.StdioOptions.{StdioOptions}
+use Rattle.presence_options.specs.declared.options.TokenOptions.{TokenOptions}
 use Rattle.presence_options.specs.declared.values.NumberRule.{NumberRule}
 use Rattle.presence_base.specs.declared.names.TheConstants.{MAX_SHARDS}
-use Rattle.presence_options.specs.declared.options.TheConstants.{LINK_PORT, MAX_HANDSHAKES_PER_SECOND, MAX_LINK_FROM, MAX_LINK_VERSION, MAX_MEMORY, MAX_ORIGINS, MAX_PER_ADDRESS, MAX_PROXIES, MAX_TOPIC_BYTES, MAX_TOPIC_ROWS, MAX_WORKERS, MIN_MEMORY, MIN_TOPIC_BYTES, TOPIC_BYTES, TOPIC_ROWS}
+use Rattle.presence_options.specs.declared.options.TheConstants.{LINK_PORT, MAX_EVENT_NAMES, MAX_HANDSHAKES_PER_SECOND, MAX_LASTS, MAX_LINK_FROM, MAX_LINK_VERSION, MAX_MEMORY, MAX_ORIGINS, MAX_PER_ADDRESS, MAX_PROXIES, MAX_TOPIC_BYTES, MAX_TOPIC_ROWS, MAX_WORKERS, MIN_MEMORY, MIN_TOPIC_BYTES, TOPIC_BYTES, TOPIC_ROWS}
 
 -- the number that a text's digits write
 abbrev pub number_in : Text → ℕ
@@ -148,6 +152,48 @@ format_in text = cond (bytes_eq text (codes "text")) (Some Plain) (cond (bytes_e
 abbrev pub metrics_port_given : List Row → Option Text
 metrics_port_given rows = first_of (codes "metrics-port") rows
 
+-- the files of the keys of tokens and of links, if they are given
+abbrev pub token_keys_given : List Row → Option Text
+token_keys_given rows = first_of (codes "token-keys") rows
+
+abbrev pub link_keys_given : List Row → Option Text
+link_keys_given rows = first_of (codes "link-keys") rows
+
+-- the file of keys, the subject and the topics of a token, if they are given
+abbrev pub key_given : List Row → Option Text
+key_given rows = first_of (codes "key") rows
+
+abbrev pub subject_given : List Row → Option Text
+subject_given rows = first_of (codes "sub") rows
+
+abbrev pub topics_given : List Row → Option (List Text)
+topics_given rows = all_of (codes "topics") rows
+
+-- how many seconds a unit has
+abbrev pub unit_in : ℕ → Option ℕ
+unit_in b = cond (b == 115) (Some 1) (cond (b == 109) (Some 60) (cond (b == 104) (Some 3600) (cond (b == 100) (Some 86400) None)))
+
+-- the time of so many units, of which this is told behind the number, and this behind that
+abbrev pub units_then : ℕ → ℕ → Text → Option ℕ
+units_then n b [] = option_map (λ unit. n * unit) (unit_in b)
+units_then n b (c ∷ cs) = None
+
+-- the time that digits behind this number and a unit tell
+abbrev pub time_from : ℕ → Text → Option ℕ
+time_from n [] = None
+time_from n (b ∷ bs) = cond (is_ascii_digit b) (time_from (min (n * 10 + (b - 48)) (MAX_LASTS + 1)) bs) (units_then n b bs)
+
+-- a time for which a token may last
+abbrev pub lasting : Option ℕ → Option ℕ
+lasting None = None
+lasting (Some n) = cond (nat_le 1 n && nat_le n MAX_LASTS) (Some n) None
+
+abbrev pub time_in : Text → Option ℕ
+time_in text = lasting (time_from 0 text)
+
+abbrev pub time_given : List Row → Text
+time_given rows = unwrap_or (first_of (codes "for") rows) (codes "1h")
+
 abbrev pub is_yes : Option Text → Bool
 is_yes None = false
 is_yes (Some text) = bytes_eq text (codes "true")
@@ -163,6 +209,39 @@ explain_given rows = flag_given (codes "explain") rows
 -- whether notices are asked for
 abbrev pub notices_given : List Row → Bool
 notices_given rows = flag_given (codes "notices") rows
+
+-- whether messages may have any number
+abbrev pub fractions_given : List Row → Bool
+fractions_given rows = flag_given (codes "fractions") rows
+
+-- whether all is asked for that an application built on Phoenix needs
+abbrev pub phoenix_given : List Row → Bool
+phoenix_given rows = flag_given (codes "phoenix") rows
+
+-- whether joins are matched
+abbrev pub match_joins_given : List Row → Bool
+match_joins_given rows = flag_given (codes "match-joins") rows
+
+-- the names of events that this option is given, in their order
+abbrev pub names_given : Text → List Row → List Text
+names_given option rows = unwrap_or (all_of option rows) []
+
+-- with all that Phoenix needs come all events
+abbrev pub with_all : Bool → List Text → List Text
+with_all false names = names
+with_all true names = names ++ codes "*" ∷ []
+
+abbrev pub events_given : List Row → List Text
+events_given rows = with_all (phoenix_given rows) (names_given (codes "event") rows)
+
+-- these are names of events, and no more than are allowed
+pub record AreNames (texts : List Text) : Type 0 where
+  pub each : AreEventNames texts
+  pub few : length texts ≤ MAX_EVENT_NAMES
+
+abbrev pub AreAllNames : List Row → Type 0
+AreAllNames rows = AreNames (names_given (codes "event") rows) × AreNames (names_given (codes "answered") rows)
+    × AreNames (names_given (codes "to-others") rows)
 
 -- ---- peers
 
@@ -254,6 +333,12 @@ pub record IsGiven (rows : List Row) (o : StdioOptions) : Type 0 where
   pub routes : o.routes ≡ numbered 0 (patterns_given rows)
   pub notices : o.notices ≡ notices_given rows
   pub explain : o.explain ≡ explain_given rows
+  pub fractions : o.fractions ≡ fractions_given rows
+
+-- the same for a fold
+pub record IsFolding (rows : List Row) (o : FoldOptions) : Type 0 where
+  pub explain : o.explain ≡ explain_given rows
+  pub fractions : o.fractions ≡ fractions_given rows
 
 -- what everybody together may take is what is given, and else the default
 pub record AreBudgetsGiven (rows : List Row) (b : Budgets) : Type 0 where
@@ -266,6 +351,14 @@ pub record AreReportsGiven (rows : List Row) (r : Reports) : Type 0 where
   pub logged : logged_in (log_given rows) ≡ Some r.logged
   pub format : format_in (log_format_given rows) ≡ Some r.format
   pub metrics_port : r.metrics_port ≡ option_map number_in (metrics_port_given rows)
+
+-- and so is what clients may do
+pub record AreClientsGiven (rows : List Row) (c : ClientOptions) : Type 0 where
+  pub fractions : c.fractions ≡ (phoenix_given rows || fractions_given rows)
+  pub match_joins : c.match_joins ≡ (phoenix_given rows || match_joins_given rows)
+  pub events : c.events.items ≡ events_given rows
+  pub answered : c.answered.items ≡ names_given (codes "answered") rows
+  pub to_others : c.to_others.items ≡ names_given (codes "to-others") rows
 
 -- the same for a server
 pub record IsServed (rows : List Row) (o : ServeOptions) : Type 0 where
@@ -287,6 +380,16 @@ pub record IsServed (rows : List Row) (o : ServeOptions) : Type 0 where
   pub link_from : WriteAddresses (link_from_given rows) o.link_from.items
   pub budgets : AreBudgetsGiven rows o.budgets
   pub reports : AreReportsGiven rows o.reports
+  pub clients : AreClientsGiven rows o.clients
+  pub token_keys : option_map string_bytes o.token_keys ≡ token_keys_given rows
+  pub link_keys : option_map string_bytes o.link_keys ≡ link_keys_given rows
+
+-- and for a token
+pub record IsToken (rows : List Row) (o : TokenOptions) : Type 0 where
+  pub key : key_given rows ≡ Some (string_bytes o.key)
+  pub subject : option_map string_bytes o.subject ≡ subject_given rows
+  pub topics : option_map (λ v. map string_bytes v.items) o.topics ≡ topics_given rows
+  pub lasts : time_in (time_given rows) ≡ Some o.lasts
 
 -- the words name this command, with these options
 abbrev pub Calls : List Text → Text → List Row → Type 0
@@ -298,8 +401,9 @@ AskFor words (Help text) = IsAmong DisplayHelp (fault_of program words)
 AskFor words (Version text) = IsAmong DisplayVersion (fault_of program words)
 AskFor words (Bare text) = IsAmong MissingSubcommand (fault_of program words)
 AskFor words (Stdio o) = (rows : List Row) × Calls words (codes "stdio") rows × IsGiven rows o
-AskFor words (Fold o) = (rows : List Row) × Calls words (codes "fold") rows × (o.explain ≡ explain_given rows)
+AskFor words (Fold o) = (rows : List Row) × Calls words (codes "fold") rows × IsFolding rows o
 AskFor words (Serve o) = (rows : List Row) × Calls words (codes "serve") rows × IsServed rows o
+AskFor words (Token o) = (rows : List Row) × Calls words (codes "token") rows × IsToken rows o
 
 -- ---- refusals
 
@@ -366,6 +470,26 @@ Refuses rows TopicBytes = ⊥
 Refuses rows Log = ⊥
 Refuses rows LogFormat = ⊥
 Refuses rows MetricsPort = ⊥
+Refuses rows Event = ⊥
+Refuses rows KeyFile = ⊥
+Refuses rows Lifetime = ⊥
+
+-- patterns, no more than are allowed, if some are given
+abbrev pub AreTopicPatterns : Option (List Text) → Type 0
+AreTopicPatterns None = Unit {0}
+AreTopicPatterns (Some patterns) = AreFewPatterns patterns
+
+-- why the options of `token` are refused: the file of keys is looked at first, then the topics, then the time
+abbrev pub TokenRefuses : List Row → UsageCause → Type 0
+TokenRefuses rows KeyFile = key_given rows ≡ None
+TokenRefuses rows Route = IsTrue (is_some (key_given rows)) × (AreTopicPatterns (topics_given rows) → ⊥)
+TokenRefuses rows Lifetime =
+    IsTrue (is_some (key_given rows)) × AreTopicPatterns (topics_given rows) × (time_in (time_given rows) ≡ None)
+TokenRefuses rows cause = ⊥
+
+abbrev pub IsTokenWrong : List Row → UsageFault → Type 0
+IsTokenWrong rows (Usage cause text) = TokenRefuses rows cause
+IsTokenWrong rows Memory = Unit {0}
 
 -- an incarnation, if one is given
 abbrev pub IsLife : Option Text → Type 0
@@ -479,13 +603,22 @@ abbrev pub IsUntold : List Row → UsageFault → Type 0
 IsUntold rows (Usage cause text) = UntoldFor rows cause
 IsUntold rows Memory = Unit {0}
 
+-- what clients may do has names that are none
+abbrev pub UnnamedFor : List Row → UsageCause → Type 0
+UnnamedFor rows Event = AreAllNames rows → ⊥
+UnnamedFor rows cause = ⊥
+
+abbrev pub IsUnnamed : List Row → UsageFault → Type 0
+IsUnnamed rows (Usage cause text) = UnnamedFor rows cause
+IsUnnamed rows Memory = Unit {0}
+
 -- why what stands beside the node itself is refused: the proxies are looked at first, then the addresses of links, what
--- everybody together may take, and what an operator is told
+-- everybody together may take, what an operator is told, and what clients may do
 abbrev pub EdgeRefuses : List Row → UsageCause → Type 0
 EdgeRefuses rows Proxy = AreProxies rows → ⊥
 EdgeRefuses rows LinkFrom = AreProxies rows × (AreLinkFrom rows → ⊥)
 EdgeRefuses rows cause = AreProxies rows × AreLinkFrom rows
-    × (WastefulFor rows cause ⊎ (IsFrugal rows × UntoldFor rows cause))
+    × (WastefulFor rows cause ⊎ ((IsFrugal rows × UntoldFor rows cause) ⊎ (IsFrugal rows × IsTold rows × UnnamedFor rows cause)))
 
 abbrev pub IsEdgeWrong : List Row → UsageFault → Type 0
 IsEdgeWrong rows (Usage cause text) = EdgeRefuses rows cause
@@ -497,6 +630,9 @@ pub record IsEdge (rows : List Row) (e : Edge) : Type 0 where
   pub link_from : WriteAddresses (link_from_given rows) e.link_from.items
   pub budgets : AreBudgetsGiven rows e.budgets
   pub reports : AreReportsGiven rows e.reports
+  pub clients : AreClientsGiven rows e.clients
+  pub token_keys : option_map string_bytes e.token_keys ≡ token_keys_given rows
+  pub link_keys : option_map string_bytes e.link_keys ≡ link_keys_given rows
 
 -- the node itself, its peers and its addresses are within their limits
 pub record IsNode (rows : List Row) : Type 0 where
@@ -565,13 +701,15 @@ pub record NamesNone (words : List Text) : Type 0 where
   pub stdio : (rows : List Row) → Calls words (codes "stdio") rows → ⊥
   pub fold : (rows : List Row) → Calls words (codes "fold") rows → ⊥
   pub serve : (rows : List Row) → Calls words (codes "serve") rows → ⊥
+  pub token : (rows : List Row) → Calls words (codes "token") rows → ⊥
 
 -- why words are refused
 abbrev pub RefusedFor : List Text → UsageCause → Type 0
 RefusedFor words Words = IsRefusal words ⊎ NamesNone words
 RefusedFor words cause =
     ((rows : List Row) × Calls words (codes "stdio") rows × Refuses rows cause)
-    ⊎ ((rows : List Row) × Calls words (codes "serve") rows × ServeRefuses rows cause)
+    ⊎ (((rows : List Row) × Calls words (codes "serve") rows × ServeRefuses rows cause)
+    ⊎ ((rows : List Row) × Calls words (codes "token") rows × TokenRefuses rows cause))
 
 abbrev pub Refused : List Text → UsageFault → Type 0
 Refused words (Usage cause text) = RefusedFor words cause
@@ -585,6 +723,7 @@ IsHelpFor kind (Bare text) = kind ≡ MissingSubcommand
 IsHelpFor kind (Stdio o) = ⊥
 IsHelpFor kind (Fold o) = ⊥
 IsHelpFor kind (Serve o) = ⊥
+IsHelpFor kind (Token o) = ⊥
 
 -- what a command of this name gives, by its rows
 abbrev pub Chooses : Text → List Row → Options → Type 0
@@ -592,13 +731,14 @@ Chooses name rows (Help text) = ⊥
 Chooses name rows (Version text) = ⊥
 Chooses name rows (Bare text) = ⊥
 Chooses name rows (Stdio o) = (name ≡ codes "stdio") × IsGiven rows o
-Chooses name rows (Fold o) = (name ≡ codes "fold") × (o.explain ≡ explain_given rows)
+Chooses name rows (Fold o) = (name ≡ codes "fold") × IsFolding rows o
 Chooses name rows (Serve o) = (name ≡ codes "serve") × IsServed rows o
+Chooses name rows (Token o) = (name ≡ codes "token") × IsToken rows o
 
 -- or why it gives nothing
 abbrev pub ChoosesNone : Text → List Row → UsageFault → Type 0
 ChoosesNone name rows Memory = Unit {0}
 ChoosesNone name rows (Usage Words text) = (name ≡ codes "stdio" → ⊥) × (name ≡ codes "fold" → ⊥)
-    × (name ≡ codes "serve" → ⊥)
+    × (name ≡ codes "serve" → ⊥) × (name ≡ codes "token" → ⊥)
 ChoosesNone name rows (Usage cause text) = ((name ≡ codes "stdio") × Refuses rows cause)
-    ⊎ ((name ≡ codes "serve") × ServeRefuses rows cause)
+    ⊎ (((name ≡ codes "serve") × ServeRefuses rows cause) ⊎ ((name ≡ codes "token") × TokenRefuses rows cause))

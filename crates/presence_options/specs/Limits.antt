@@ -1,5 +1,5 @@
 -- What the options of a command line keep.
-use Rattle.std.specs.Prelude.{◌≡◌, ◌≤◌, ◌+◌, ◌||◌, ℕ, Bool, false, List, [], ◌∷◌, bytes_eq, length, map, string_bytes, IsTrue}
+use Rattle.std.specs.Prelude.{◌≡◌, ◌≤◌, ◌+◌, ◌||◌, ◌&&◌, nat_le, ℕ, Bool, false, List, [], ◌∷◌, bytes_eq, length, map, string_bytes, IsTrue}
 use Rattle.std.specs.Option.{ForSome}
 use Rattle.std.specs.List.{AllByRecursion}
 use Rattle.presence_base.specs.Names.{is_node_name}
@@ -13,9 +13,16 @@ use Rattle.presence_options.specs.declared.options.PeerOption.{PeerOption}
 use Rattle.presence_options.specs.declared.options.StdioOptions.{StdioOptions}
 use Rattle.presence_options.specs.declared.options.ServeOptions.{ServeOptions}
 use Rattle.presence_base.specs.declared.names.TheConstants.{MAX_SHARDS}
-use Rattle.presence_options.specs.declared.options.TheConstants.{MAX_HANDSHAKES_PER_SECOND, MAX_LINK_FROM, MAX_LINK_VERSION, MAX_MEMORY, MAX_ORIGINS, MAX_PER_ADDRESS, MAX_PROXIES, MAX_TOPIC_BYTES, MAX_TOPIC_ROWS, MAX_WORKERS, MIN_MEMORY, MIN_TOPIC_BYTES}
+use Rattle.presence_options.specs.declared.options.TheConstants.{MAX_EVENT_BYTES, MAX_HANDSHAKES_PER_SECOND, MAX_LINK_FROM, MAX_LINK_VERSION, MAX_MEMORY, MAX_ORIGINS, MAX_PER_ADDRESS, MAX_PROXIES, MAX_TOPIC_BYTES, MAX_TOPIC_ROWS, MAX_WORKERS, MIN_MEMORY, MIN_TOPIC_BYTES}
 use Rattle.presence_options.specs.declared.options.Options.{Options}
-use Rattle.presence_options.specs.declared.options.Options.TheVariants.{Help, Version, Bare, Stdio, Fold, Serve}
+use Rattle.presence_options.specs.declared.options.Options.TheVariants.{Help, Version, Bare, Stdio, Fold, Serve, Token}
+
+-- 1 to 64 bytes (MAX_EVENT_BYTES)
+abbrev pub is_event_name : List ℕ → Bool
+is_event_name text = nat_le 1 (length text) && nat_le (length text) MAX_EVENT_BYTES
+
+abbrev pub AreEventNames : List (List ℕ) → Type 0
+AreEventNames texts = AllByRecursion (λ t. IsTrue (is_event_name t)) texts
 
 -- patterns with their positions, from this one on
 abbrev pub numbered : ℕ → List (List ℕ) → List (List ℕ × ℕ)
@@ -92,3 +99,4 @@ AreWithin (Bare text) = Unit {0}
 AreWithin (Stdio o) = IsWithin o
 AreWithin (Fold o) = Unit {0}
 AreWithin (Serve o) = IsServedWithin o
+AreWithin (Token o) = Unit {0}

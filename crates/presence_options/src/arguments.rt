@@ -4,10 +4,12 @@ ghost use Rattle.clap.specs.Words.{rule_of};
 ghost use Rattle.presence_options.specs.CommandLine.{flag_rule, option_rule};
 
 use crate::help::{
-    EXPLAIN_HELP, HANDSHAKES_HELP, LINK_FROM_HELP, LINK_LISTEN_HELP, LINK_PORT_HELP,
-    LINK_VERSION_HELP, LISTEN_HELP, LOG_FORMAT_HELP, LOG_HELP, MEMORY_HELP, METRICS_PORT_HELP,
-    NAME_HELP, NOTICES_HELP, ORIGIN_HELP, PEER_HELP, PER_ADDRESS_HELP, PORT_HELP, PROXY_HELP,
-    ROUTE_HELP, SHARDS_HELP, TOPIC_BYTES_HELP, TOPIC_ROWS_HELP, WORKERS_HELP,
+    ANSWERED_HELP, EVENT_HELP, EXPLAIN_HELP, FOR_HELP, FRACTIONS_HELP, HANDSHAKES_HELP, KEY_HELP,
+    LINK_FROM_HELP, LINK_KEYS_HELP, LINK_LISTEN_HELP, LINK_PORT_HELP, LINK_VERSION_HELP,
+    LISTEN_HELP, LOG_FORMAT_HELP, LOG_HELP, MATCH_JOINS_HELP, MEMORY_HELP, METRICS_PORT_HELP,
+    NAME_HELP, NOTICES_HELP, ORIGIN_HELP, PEER_HELP, PER_ADDRESS_HELP, PHOENIX_HELP, PORT_HELP,
+    PROXY_HELP, ROUTE_HELP, SHARDS_HELP, SUB_HELP, TO_OTHERS_HELP, TOKEN_KEYS_HELP,
+    TOPIC_BYTES_HELP, TOPIC_ROWS_HELP, TOPICS_HELP, WORKERS_HELP,
 };
 use clap::{Arg, ArgAction};
 use std::alloc::Global;
@@ -21,6 +23,75 @@ pub(crate) fn explain_flag<'a>(alloc: Global) -> Arg<'a>
         .long("explain")
         .action(ArgAction::SetTrue)
         .help(EXPLAIN_HELP)
+}
+
+/// `--fractions`.
+pub(crate) fn fractions_flag<'a>(alloc: Global) -> Arg<'a>
+    ensures rule { rule_of result ≡ flag_rule (codes "fractions") }
+    ensures local { result.global ≡ false }
+{
+    Arg::new(alloc, "fractions")
+        .long("fractions")
+        .action(ArgAction::SetTrue)
+        .help(FRACTIONS_HELP)
+}
+
+/// `--match-joins`.
+pub(crate) fn match_joins_flag<'a>(alloc: Global) -> Arg<'a>
+    ensures rule { rule_of result ≡ flag_rule (codes "match-joins") }
+    ensures local { result.global ≡ false }
+{
+    Arg::new(alloc, "match-joins")
+        .long("match-joins")
+        .action(ArgAction::SetTrue)
+        .help(MATCH_JOINS_HELP)
+}
+
+/// `--phoenix`.
+pub(crate) fn phoenix_flag<'a>(alloc: Global) -> Arg<'a>
+    ensures rule { rule_of result ≡ flag_rule (codes "phoenix") }
+    ensures local { result.global ≡ false }
+{
+    Arg::new(alloc, "phoenix")
+        .long("phoenix")
+        .action(ArgAction::SetTrue)
+        .help(PHOENIX_HELP)
+}
+
+/// `--event NAME`, up to 64 times.
+pub(crate) fn event_option<'a>(alloc: Global) -> Arg<'a>
+    ensures rule { rule_of result ≡ option_rule (codes "event") ArgAction.Append }
+    ensures local { result.global ≡ false }
+{
+    Arg::new(alloc, "event")
+        .long("event")
+        .value_name("NAME")
+        .action(ArgAction::Append)
+        .help(EVENT_HELP)
+}
+
+/// `--answered NAME`, up to 64 times.
+pub(crate) fn answered_option<'a>(alloc: Global) -> Arg<'a>
+    ensures rule { rule_of result ≡ option_rule (codes "answered") ArgAction.Append }
+    ensures local { result.global ≡ false }
+{
+    Arg::new(alloc, "answered")
+        .long("answered")
+        .value_name("NAME")
+        .action(ArgAction::Append)
+        .help(ANSWERED_HELP)
+}
+
+/// `--to-others NAME`, up to 64 times.
+pub(crate) fn to_others_option<'a>(alloc: Global) -> Arg<'a>
+    ensures rule { rule_of result ≡ option_rule (codes "to-others") ArgAction.Append }
+    ensures local { result.global ≡ false }
+{
+    Arg::new(alloc, "to-others")
+        .long("to-others")
+        .value_name("NAME")
+        .action(ArgAction::Append)
+        .help(TO_OTHERS_HELP)
 }
 
 /// `--notices`.
@@ -296,4 +367,76 @@ pub(crate) fn metrics_port_option<'a>(alloc: Global) -> Arg<'a>
         .value_name("PORT")
         .action(ArgAction::Set)
         .help(METRICS_PORT_HELP)
+}
+
+/// `--token-keys FILE`.
+pub(crate) fn token_keys_option<'a>(alloc: Global) -> Arg<'a>
+    ensures rule { rule_of result ≡ option_rule (codes "token-keys") ArgAction.Set }
+    ensures local { result.global ≡ false }
+{
+    Arg::new(alloc, "token-keys")
+        .long("token-keys")
+        .value_name("FILE")
+        .action(ArgAction::Set)
+        .help(TOKEN_KEYS_HELP)
+}
+
+/// `--link-keys FILE`.
+pub(crate) fn link_keys_option<'a>(alloc: Global) -> Arg<'a>
+    ensures rule { rule_of result ≡ option_rule (codes "link-keys") ArgAction.Set }
+    ensures local { result.global ≡ false }
+{
+    Arg::new(alloc, "link-keys")
+        .long("link-keys")
+        .value_name("FILE")
+        .action(ArgAction::Set)
+        .help(LINK_KEYS_HELP)
+}
+
+/// `--key FILE`.
+pub(crate) fn key_option<'a>(alloc: Global) -> Arg<'a>
+    ensures rule { rule_of result ≡ option_rule (codes "key") ArgAction.Set }
+    ensures local { result.global ≡ false }
+{
+    Arg::new(alloc, "key")
+        .long("key")
+        .value_name("FILE")
+        .action(ArgAction::Set)
+        .help(KEY_HELP)
+}
+
+/// `--sub NAME`.
+pub(crate) fn subject_option<'a>(alloc: Global) -> Arg<'a>
+    ensures rule { rule_of result ≡ option_rule (codes "sub") ArgAction.Set }
+    ensures local { result.global ≡ false }
+{
+    Arg::new(alloc, "sub")
+        .long("sub")
+        .value_name("NAME")
+        .action(ArgAction::Set)
+        .help(SUB_HELP)
+}
+
+/// `--topics PATTERN`.
+pub(crate) fn topics_option<'a>(alloc: Global) -> Arg<'a>
+    ensures rule { rule_of result ≡ option_rule (codes "topics") ArgAction.Append }
+    ensures local { result.global ≡ false }
+{
+    Arg::new(alloc, "topics")
+        .long("topics")
+        .value_name("PATTERN")
+        .action(ArgAction::Append)
+        .help(TOPICS_HELP)
+}
+
+/// `--for TIME`.
+pub(crate) fn time_option<'a>(alloc: Global) -> Arg<'a>
+    ensures rule { rule_of result ≡ option_rule (codes "for") ArgAction.Set }
+    ensures local { result.global ≡ false }
+{
+    Arg::new(alloc, "for")
+        .long("for")
+        .value_name("TIME")
+        .action(ArgAction::Set)
+        .help(FOR_HELP)
 }

@@ -1,43 +1,118 @@
 //! The words.
-ghost use Rattle.std.specs.Prelude.{◌≡◌, IfOk, IfErr, OnOk, map, option_map};
+ghost use Rattle.std.specs.Prelude.{◌≡◌, IfOk, IfErr, OnOk, codes, map, option_map};
 ghost use Rattle.std.specs.Option.{ForSome};
 ghost use Rattle.clap.specs.Words.{app_of, found_of, kind_of, rows_of, subcommand_rows_of};
-ghost use Rattle.presence_options.specs.CommandLine.{stdio_app, fold_app, linked_app, serve_app, served_app, program};
-ghost use Rattle.presence_options.specs.Given.{AreBudgetsGiven, AreReportsGiven, AskFor, Chooses, ChoosesNone, HasCause, IsEdge, IsEdgeWrong, IsFor, IsFrugal, IsGiven, IsHelpFor, IsNoHelp, IsServed, IsServedWrong, IsTold, IsUntold, IsWasteful, IsWrong, Refused};
+ghost use Rattle.presence_options.specs.CommandLine.{stdio_app, fold_app, linked_app, serve_app, served_app, token_app, watched_app, program};
+ghost use Rattle.presence_options.specs.Given.{AreAllNames, AreBudgetsGiven, AreClientsGiven, AreNames, AreReportsGiven, AskFor, Chooses, ChoosesNone, HasCause, IsEdge, IsEdgeWrong, IsFor, IsFrugal, IsGiven, IsHelpFor, IsNoHelp, IsServed, IsServedWrong, IsTold, IsUntold, IsWasteful, IsWrong, Refused, events_given, names_given};
 ghost use Rattle.presence_options.specs.Limits.{AreBudgets, AreWithin, IsEdgeWithin, IsFrom1To, IsServedWithin, IsWithin};
 
-use crate::addresses::{AddressRule, listen_of};
-use crate::arguments::{
-    explain_flag, handshakes_option, incarnation_option, link_from_option, link_listen_option,
-    link_port_option, link_version_option, listen_option, log_format_option, log_option,
-    memory_option, metrics_port_option, name_option, notices_flag, origin_option, peer_option,
-    per_address_option, port_option, proxy_option, route_option, shards_option, topic_bytes_option,
-    topic_rows_option, workers_option,
-};
-use crate::fault::{UsageCause, UsageFault};
-use crate::found::{
-    given_addresses, given_handshakes, given_life, given_link_port, given_metrics_port,
-    given_number, given_origins, given_peers, given_per_address, given_routes, is_flagged,
-    text_given,
-};
-use crate::help::{
-    ALL_OPTIONS, FOLD_REFUSALS, FOLD_TAKES, FOLD_USAGE, INCARNATION_HELP, SERVE_ENDS, SERVE_TAKES,
-    SERVE_USAGE, SERVED_INCARNATION_HELP, STDIO_REFUSALS, STDIO_TAKES, STDIO_USAGE, TO_TRY, USAGES,
-    VERSION,
-};
-use crate::options::{
-    Budgets, FoldOptions, MAX_LINK_FROM, MAX_MEMORY, MAX_PROXIES, MAX_TOPIC_BYTES, MAX_TOPIC_ROWS,
-    MIN_MEMORY, MIN_TOPIC_BYTES, Options, Reports, ServeOptions, StdioOptions, TOPIC_BYTES,
-    TOPIC_ROWS,
-};
+use crate::addresses::AddressRule;
+use crate::addresses::listen_of;
+use crate::arguments::answered_option;
+use crate::arguments::event_option;
+use crate::arguments::explain_flag;
+use crate::arguments::fractions_flag;
+use crate::arguments::handshakes_option;
+use crate::arguments::incarnation_option;
+use crate::arguments::key_option;
+use crate::arguments::link_from_option;
+use crate::arguments::link_keys_option;
+use crate::arguments::link_listen_option;
+use crate::arguments::link_port_option;
+use crate::arguments::link_version_option;
+use crate::arguments::listen_option;
+use crate::arguments::log_format_option;
+use crate::arguments::log_option;
+use crate::arguments::match_joins_flag;
+use crate::arguments::memory_option;
+use crate::arguments::metrics_port_option;
+use crate::arguments::name_option;
+use crate::arguments::notices_flag;
+use crate::arguments::origin_option;
+use crate::arguments::peer_option;
+use crate::arguments::per_address_option;
+use crate::arguments::phoenix_flag;
+use crate::arguments::port_option;
+use crate::arguments::proxy_option;
+use crate::arguments::route_option;
+use crate::arguments::shards_option;
+use crate::arguments::subject_option;
+use crate::arguments::time_option;
+use crate::arguments::to_others_option;
+use crate::arguments::token_keys_option;
+use crate::arguments::topic_bytes_option;
+use crate::arguments::topic_rows_option;
+use crate::arguments::topics_option;
+use crate::arguments::workers_option;
+use crate::event_names::with_all;
+use crate::fault::UsageCause;
+use crate::fault::UsageFault;
+use crate::found::given_addresses;
+use crate::found::given_handshakes;
+use crate::found::given_life;
+use crate::found::given_link_port;
+use crate::found::given_metrics_port;
+use crate::found::given_names;
+use crate::found::given_number;
+use crate::found::given_origins;
+use crate::found::given_peers;
+use crate::found::given_per_address;
+use crate::found::given_routes;
+use crate::found::given_text;
+use crate::found::is_flagged;
+use crate::found::text_given;
+use crate::help::ALL_OPTIONS;
+use crate::help::FOLD_REFUSALS;
+use crate::help::FOLD_TAKES;
+use crate::help::FOLD_USAGE;
+use crate::help::INCARNATION_HELP;
+use crate::help::SERVE_ENDS;
+use crate::help::SERVE_TAKES;
+use crate::help::SERVE_USAGE;
+use crate::help::SERVED_INCARNATION_HELP;
+use crate::help::STDIO_REFUSALS;
+use crate::help::STDIO_TAKES;
+use crate::help::STDIO_USAGE;
+use crate::help::TO_TRY;
+use crate::help::TOKEN_TAKES;
+use crate::help::TOKEN_USAGE;
+use crate::help::USAGES;
+use crate::help::VERSION;
+use crate::options::Budgets;
+use crate::options::ClientOptions;
+use crate::options::FoldOptions;
+use crate::options::MAX_LINK_FROM;
+use crate::options::MAX_MEMORY;
+use crate::options::MAX_PROXIES;
+use crate::options::MAX_TOPIC_BYTES;
+use crate::options::MAX_TOPIC_ROWS;
+use crate::options::MIN_MEMORY;
+use crate::options::MIN_TOPIC_BYTES;
+use crate::options::Options;
+use crate::options::Reports;
+use crate::options::ServeOptions;
+use crate::options::StdioOptions;
+use crate::options::TOPIC_BYTES;
+use crate::options::TOPIC_ROWS;
 use crate::peer_names::names_checked;
-use crate::reports::{format_of, logged_of};
-use crate::values::{
-    NumberRule, incarnation_of, link_version_of, name_of, port_of, shards_of, usage_of, workers_of,
-};
+use crate::reports::format_of;
+use crate::reports::logged_of;
+use crate::token::token_options;
+use crate::values::NumberRule;
+use crate::values::incarnation_of;
+use crate::values::link_version_of;
+use crate::values::name_of;
+use crate::values::port_of;
+use crate::values::shards_of;
+use crate::values::usage_of;
+use crate::values::workers_of;
+use clap::ArgMatches;
+use clap::Command;
+use clap::Error;
 use clap::error::ErrorKind;
-use clap::{ArgMatches, Command, Error};
-use std::alloc::{AllocError, Global};
+use presence_base::Text;
+use std::alloc::AllocError;
+use std::alloc::Global;
 use std::net::IpAddr;
 
 // The command `stdio` with its options.
@@ -52,7 +127,8 @@ fn stdio_command<'a>(alloc: Global) -> Result<Command<'a>, AllocError>
         .arg(incarnation_option(alloc, INCARNATION_HELP))?
         .arg(route_option(alloc))?
         .arg(notices_flag(alloc))?
-        .arg(explain_flag(alloc))
+        .arg(explain_flag(alloc))?
+        .arg(fractions_flag(alloc))
 }
 
 // The command `fold`.
@@ -63,7 +139,8 @@ fn fold_command<'a>(alloc: Global) -> Result<Command<'a>, AllocError>
         .about("Folds presence frames, one a line, and prints an object from topic to map")
         .override_usage(FOLD_USAGE)
         .after_help(FOLD_REFUSALS)
-        .arg(explain_flag(alloc))
+        .arg(explain_flag(alloc))?
+        .arg(fractions_flag(alloc))
 }
 
 // The command `serve` with the options of the node itself.
@@ -97,9 +174,9 @@ fn linked_command<'a>(alloc: Global) -> Result<Command<'a>, AllocError>
         .arg(handshakes_option(alloc))
 }
 
-// The command `serve` with all of its options.
-fn serve_command<'a>(alloc: Global) -> Result<Command<'a>, AllocError>
-    ensures { IfOk result (λ c. app_of c ≡ serve_app) }
+// The command `serve` with those of proxies, of what everybody together may take, and of what an operator is told too.
+fn watched_command<'a>(alloc: Global) -> Result<Command<'a>, AllocError>
+    ensures { IfOk result (λ c. app_of c ≡ watched_app) }
 {
     linked_command(alloc)?
         .arg(proxy_option(alloc))?
@@ -112,6 +189,34 @@ fn serve_command<'a>(alloc: Global) -> Result<Command<'a>, AllocError>
         .arg(metrics_port_option(alloc))
 }
 
+// The command `token` with its options.
+fn token_command<'a>(alloc: Global) -> Result<Command<'a>, AllocError>
+    ensures { IfOk result (λ c. app_of c ≡ token_app) }
+{
+    Command::new(alloc, "token")
+        .about("Prints a token by which a client signs in, to try it")
+        .override_usage(TOKEN_USAGE)
+        .arg(key_option(alloc))?
+        .arg(subject_option(alloc))?
+        .arg(topics_option(alloc))?
+        .arg(time_option(alloc))
+}
+
+// The command `serve` with all of its options.
+fn serve_command<'a>(alloc: Global) -> Result<Command<'a>, AllocError>
+    ensures { IfOk result (λ c. app_of c ≡ serve_app) }
+{
+    watched_command(alloc)?
+        .arg(phoenix_flag(alloc))?
+        .arg(fractions_flag(alloc))?
+        .arg(match_joins_flag(alloc))?
+        .arg(event_option(alloc))?
+        .arg(answered_option(alloc))?
+        .arg(to_others_option(alloc))?
+        .arg(token_keys_option(alloc))?
+        .arg(link_keys_option(alloc))
+}
+
 // The whole command line.
 fn command_of<'a>(alloc: Global) -> Result<Command<'a>, AllocError>
     ensures { IfOk result (λ c. app_of c ≡ program) }
@@ -119,6 +224,7 @@ fn command_of<'a>(alloc: Global) -> Result<Command<'a>, AllocError>
     let stdio = stdio_command(alloc)?;
     let fold = fold_command(alloc)?;
     let serve = serve_command(alloc)?;
+    let token = token_command(alloc)?;
     Command::new(alloc, "presence_node")
         .about("A server of Phoenix Channels with Presence")
         .version(VERSION)
@@ -127,7 +233,8 @@ fn command_of<'a>(alloc: Global) -> Result<Command<'a>, AllocError>
         .subcommand_required(true)
         .subcommand(stdio)?
         .subcommand(fold)?
-        .subcommand(serve)
+        .subcommand(serve)?
+        .subcommand(token)
 }
 
 // What the parser says in place of matches, without the line feeds behind it.
@@ -142,7 +249,8 @@ fn taken_by(alloc: Global, words: &[&str]) -> Result<String, AllocError> {
         Some("stdio") => String::from_str(alloc, STDIO_TAKES),
         Some("fold") => String::from_str(alloc, FOLD_TAKES),
         Some("serve") => String::from_str(alloc, SERVE_TAKES),
-        _ => format!(in alloc; "{STDIO_TAKES}\n{FOLD_TAKES}\n{SERVE_TAKES}"),
+        Some("token") => String::from_str(alloc, TOKEN_TAKES),
+        _ => format!(in alloc; "{STDIO_TAKES}\n{FOLD_TAKES}\n{SERVE_TAKES}\n{TOKEN_TAKES}"),
     }
 }
 
@@ -231,17 +339,21 @@ fn stdio_options(alloc: Global, matches: &ArgMatches<'_>) -> Result<StdioOptions
         routes,
         notices: is_flagged(matches, "notices"),
         explain: is_flagged(matches, "explain"),
+        fractions: is_flagged(matches, "fractions"),
     })
 }
 
-// What stands beside the node itself: proxies, the addresses of links, what everybody together may take, and what an
-// operator is told.
+// What stands beside the node itself: proxies, the addresses of links, what everybody together may take, what an operator
+// is told, what clients may do, and the files of keys.
 #[derive(Drop)]
 struct Edge {
     proxies: Vec<IpAddr>,
     link_from: Vec<IpAddr>,
     budgets: Budgets,
     reports: Reports,
+    clients: ClientOptions,
+    token_keys: Option<String>,
+    link_keys: Option<String>,
 }
 
 // The rules of the options that are numbers or addresses.
@@ -312,8 +424,44 @@ fn reports_of(alloc: Global, matches: &ArgMatches<'_>) -> Result<Reports, UsageF
     })
 }
 
+// The names of events that `--event` is given, and that of all where `--phoenix` is.
+fn events_of(alloc: Global, matches: &ArgMatches<'_>) -> Result<Vec<Text>, UsageFault>
+    ensures given { IfOk result (λ names. names.items ≡ events_given (rows_of (found_of matches.now))) }
+    ensures within { OnOk result (AreNames (names_given (codes "event") (rows_of (found_of matches.now)))) }
+    ensures cause { IfErr result (IsFor UsageCause.Event
+        (AreNames (names_given (codes "event") (rows_of (found_of matches.now))) → ⊥)) }
+{
+    let names = given_names(alloc, matches, "event")?;
+    if !is_flagged(matches, "phoenix") {
+        return Ok(names);
+    }
+    match with_all(alloc, names) {
+        Ok(names) => Ok(names),
+        Err(_) => Err(UsageFault::Memory),
+    }
+}
+
+// What clients may do beyond the usual.
+fn clients_of(alloc: Global, matches: &ArgMatches<'_>) -> Result<ClientOptions, UsageFault>
+    ensures given { IfOk result (AreClientsGiven (rows_of (found_of matches.now))) }
+    ensures within { OnOk result (AreAllNames (rows_of (found_of matches.now))) }
+    ensures cause { IfErr result (IsFor UsageCause.Event (AreAllNames (rows_of (found_of matches.now)) → ⊥)) }
+{
+    let events = events_of(alloc, matches)?;
+    let answered = given_names(alloc, matches, "answered")?;
+    let to_others = given_names(alloc, matches, "to-others")?;
+    let phoenix = is_flagged(matches, "phoenix");
+    Ok(ClientOptions {
+        fractions: phoenix || is_flagged(matches, "fractions"),
+        match_joins: phoenix || is_flagged(matches, "match-joins"),
+        events,
+        answered,
+        to_others,
+    })
+}
+
 // What stands beside the node itself.
-#[tactic(auto, using(crate::proofs::Serving::untold_edge, crate::proofs::Serving::wasteful_edge))]
+#[tactic(auto, using(crate::proofs::Serving::untold_edge, crate::proofs::Serving::wasteful_edge, crate::proofs::Serving::unnamed_edge))]
 fn edge_of(alloc: Global, matches: &ArgMatches<'_>) -> Result<Edge, UsageFault>
     ensures given { IfOk result (IsEdge (rows_of (found_of matches.now))) }
     ensures limits { IfOk result IsEdgeWithin }
@@ -323,11 +471,17 @@ fn edge_of(alloc: Global, matches: &ArgMatches<'_>) -> Result<Edge, UsageFault>
     let link_from = given_addresses(alloc, matches, LINKS_FROM)?;
     let budgets = budgets_of(alloc, matches)?;
     let reports = reports_of(alloc, matches)?;
+    let clients = clients_of(alloc, matches)?;
+    let token_keys = given_text(alloc, matches, "token-keys")?;
+    let link_keys = given_text(alloc, matches, "link-keys")?;
     Ok(Edge {
         proxies,
         link_from,
         budgets,
         reports,
+        clients,
+        token_keys,
+        link_keys,
     })
 }
 
@@ -355,6 +509,9 @@ fn serve_options(alloc: Global, matches: &ArgMatches<'_>) -> Result<ServeOptions
         link_from,
         budgets,
         reports,
+        clients,
+        token_keys,
+        link_keys,
     } = edge_of(alloc, matches)?;
     Ok(ServeOptions {
         name,
@@ -375,6 +532,9 @@ fn serve_options(alloc: Global, matches: &ArgMatches<'_>) -> Result<ServeOptions
         link_from,
         budgets,
         reports,
+        clients,
+        token_keys,
+        link_keys,
     })
 }
 
@@ -393,7 +553,7 @@ fn no_command(alloc: Global) -> UsageFault
 {
     let text = String::from_str(
         alloc,
-        "presence_node: a command is wanted: stdio, fold or serve",
+        "presence_node: a command is wanted: stdio, fold, serve or token",
     );
     usage_of(UsageCause::Words, text)
 }
@@ -413,11 +573,18 @@ fn chosen(alloc: Global, name: &str, matches: &ArgMatches<'_>) -> Result<Options
     if name == "fold" {
         return Ok(Options::Fold(FoldOptions {
             explain: is_flagged(matches, "explain"),
+            fractions: is_flagged(matches, "fractions"),
         }));
     }
     if name == "serve" {
         return match serve_options(alloc, matches) {
             Ok(options) => Ok(Options::Serve(options)),
+            Err(fault) => Err(fault),
+        };
+    }
+    if name == "token" {
+        return match token_options(alloc, matches) {
+            Ok(options) => Ok(Options::Token(options)),
             Err(fault) => Err(fault),
         };
     }

@@ -49,6 +49,12 @@ pub enum UsageCause {
     LogFormat,
     /// The port of metrics is no number from 1 to 65535.
     MetricsPort,
+    /// A name of an event is empty or too long, or there are too many.
+    Event,
+    /// No file of keys is given.
+    KeyFile,
+    /// The time that a token is to last is none, or more than `MAX_LASTS`.
+    Lifetime,
 }
 
 /// Why a command line was not taken: a cause with a text for the user, or want of memory.

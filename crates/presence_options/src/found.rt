@@ -3,12 +3,13 @@ ghost use Rattle.std.specs.Prelude.{◌≡◌, ◌≤◌, IfErr, IfOk, OnOk, map
 ghost use Rattle.std.specs.Option.{ForSome};
 ghost use Rattle.presence_base.specs.Refs.{IsCount};
 ghost use Rattle.clap.specs.Words.{first_of, found_of, rows_of};
-ghost use Rattle.presence_options.specs.Given.{AreByRule, AreFewOrigins, AreFewPatterns, AreHandshakes, AllArePeers, ArePeers, IsByRule, IsFor, IsLife, IsLinkPort, IsMetricsPort, IsPerAddress, WriteAddresses, flag_given, handshakes_given, life_given, link_port_in, metrics_port_given, number_in, origins_given, patterns_given, peers_given, per_address_given, texts_for};
+ghost use Rattle.presence_options.specs.Given.{AreByRule, AreFewOrigins, AreFewPatterns, AreHandshakes, AreNames, AllArePeers, ArePeers, IsByRule, IsFor, IsLife, IsLinkPort, IsMetricsPort, IsPerAddress, WriteAddresses, flag_given, handshakes_given, life_given, link_port_in, metrics_port_given, names_given, number_in, origins_given, patterns_given, peers_given, per_address_given, texts_for};
 ghost use Rattle.presence_options.specs.declared.options.TheConstants.{MAX_HANDSHAKES_PER_SECOND, MAX_ORIGINS, MAX_PER_ADDRESS};
 ghost use Rattle.presence_options.specs.Limits.{AreRoutes, IsFrom1To, IsFromTo, numbered};
 ghost use Rattle.presence_options.specs.Origins.{AreOrigins};
 
 use crate::addresses::{AddressRule, addresses_of};
+use crate::event_names::event_names_of;
 use crate::fault::{UsageCause, UsageFault};
 use crate::options::{LINK_PORT, PeerOption};
 use crate::values::{
@@ -17,6 +18,7 @@ use crate::values::{
 };
 use clap::ArgMatches;
 use hook_registry::Routes;
+use presence_base::Text;
 use std::alloc::Global;
 use std::net::IpAddr;
 
@@ -37,8 +39,8 @@ pub(crate) fn given_routes(alloc: Global, matches: &ArgMatches<'_>) -> Result<Ro
         (AreFewPatterns (patterns_given (rows_of (found_of matches.now))) → ⊥)) }
 {
     match matches.get_strs("route") {
-        Some(patterns) => routes_of(alloc, patterns),
-        None => routes_of(alloc, &["room:*"]),
+        Some(patterns) => routes_of(alloc, "route", patterns),
+        None => routes_of(alloc, "route", &["room:*"]),
     }
 }
 
@@ -76,6 +78,24 @@ pub(crate) fn given_origins(
     match matches.get_strs("origin") {
         Some(texts) => origins_of(alloc, texts),
         None => origins_of(alloc, &[]),
+    }
+}
+
+/// The names of events that this option is given.
+#[tactic(auto, using(crate::proofs::Rows::all_read))]
+pub(crate) fn given_names(
+    alloc: Global,
+    matches: &ArgMatches<'_>,
+    option: &str,
+) -> Result<Vec<Text>, UsageFault>
+    ensures names { IfOk result (λ names. names.items ≡ names_given option.now (rows_of (found_of matches.now))) }
+    ensures given { OnOk result (AreNames (names_given option.now (rows_of (found_of matches.now)))) }
+    ensures cause { IfErr result (IsFor UsageCause.Event
+        (AreNames (names_given option.now (rows_of (found_of matches.now))) → ⊥)) }
+{
+    match matches.get_strs(option) {
+        Some(texts) => event_names_of(alloc, option, texts),
+        None => event_names_of(alloc, option, &[]),
     }
 }
 
@@ -234,5 +254,25 @@ pub(crate) fn given_addresses(
     match matches.get_strs(rule.option) {
         Some(texts) => addresses_of(alloc, texts, rule),
         None => addresses_of(alloc, &[], rule),
+    }
+}
+
+/// The text that an option is given, if it is given one.
+#[tactic(auto, using(crate::proofs::Rows::first_read))]
+pub(crate) fn given_text(
+    alloc: Global,
+    matches: &ArgMatches<'_>,
+    option: &str,
+) -> Result<Option<String>, UsageFault>
+    ensures text { IfOk result
+        (λ text. option_map string_bytes text ≡ first_of option.now (rows_of (found_of matches.now))) }
+    ensures memory { IfErr result (λ fault. fault ≡ UsageFault.Memory) }
+{
+    let Some(text) = matches.get_str(option) else {
+        return Ok(None);
+    };
+    match String::from_str(alloc, text) {
+        Ok(text) => Ok(Some(text)),
+        Err(_) => Err(UsageFault::Memory),
     }
 }

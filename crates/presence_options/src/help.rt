@@ -2,18 +2,22 @@
 //! characters; an option's help has its default at the end of its first line.
 
 /// The version of the program, and the day of its sources: the year, the month and the day.
-pub const VERSION: &str = "0.1.0+20261201";
+pub const VERSION: &str = "0.2.0+20261201";
 
 /// How the program is called.
 pub(crate) const USAGES: &str = "presence_node serve [OPTIONS]
        presence_node stdio [OPTIONS]
-       presence_node fold [--explain]";
+       presence_node fold [OPTIONS]
+       presence_node token --key <FILE> [OPTIONS]";
 
 /// How `stdio` is called.
 pub(crate) const STDIO_USAGE: &str = "presence_node stdio [OPTIONS]";
 
 /// How `fold` is called.
-pub(crate) const FOLD_USAGE: &str = "presence_node fold [--explain]";
+pub(crate) const FOLD_USAGE: &str = "presence_node fold [OPTIONS]";
+
+/// How `token` is called.
+pub(crate) const TOKEN_USAGE: &str = "presence_node token --key <FILE> [OPTIONS]";
 
 /// How `serve` is called.
 pub(crate) const SERVE_USAGE: &str = "presence_node serve [OPTIONS]";
@@ -98,13 +102,61 @@ pub(crate) const METRICS_PORT_HELP: &str =
 At the address of --link-listen; /metrics then isn't at the port of
 clients";
 
+pub(crate) const TOKEN_KEYS_HELP: &str =
+    "Keys of the tokens that clients show [default: they show none]
+A file of keys, one a line, of 32 bytes at least, or base64url: and
+what encodes one; each client shows a token that is signed under one
+A line keys on standard input reads them again";
+
+pub(crate) const LINK_KEYS_HELP: &str = "Keys that nodes show one another [default: they show none]
+A file as that of --token-keys, to be given to all nodes: a node is
+linked to where it has one of these keys too";
+
 pub(crate) const SHARDS_HELP: &str = "How many shards the topics are dealt to, 1 to 4 [default: 4]";
 
 pub(crate) const WORKERS_HELP: &str = "How many threads answer clients, 1 to 64 [default: 4]
 Each answers at most 1024 of them";
 
+/// What `token` is told by each option.
+pub(crate) const KEY_HELP: &str = "A file of keys as --token-keys has it: the first one signs";
+
+pub(crate) const SUB_HELP: &str = "The key under which it may be tracked [default: none, it looks]";
+
+pub(crate) const TOPICS_HELP: &str =
+    "A topic that it may join; up to 64 times [default: all with a route]
+A * at its end stands for whatever follows";
+
+pub(crate) const FOR_HELP: &str = "How long the token lasts, as 90s, 30m, 1h or 7d [default: 1h]
+A number with s, m, h or d behind it; ten years at most";
+
 /// What `stdio` and `fold` are told by `--explain`.
 pub(crate) const EXPLAIN_HELP: &str = "Say in words, on a second line, why a line was refused";
+
+/// What all are told by `--fractions`.
+pub(crate) const FRACTIONS_HELP: &str =
+    "Allow any number in messages, as 1.50, 1e3 or one beyond 64 bits
+It comes back as it was written. Give it to all nodes alike, to stdio
+and to fold: without it such a number is a text behind \\u0000";
+
+/// What `serve` is told of what its clients may do.
+pub(crate) const MATCH_JOINS_HELP: &str = "Answer what comes under an earlier join as not joined
+A message to a topic counts only under the join reference of the
+topic's present join";
+
+pub(crate) const EVENT_HELP: &str = "An event of clients' own, to all who joined; up to 64 times
+It has 1 to 64 bytes; * stands for all that the channel doesn't have
+itself, but those of the server: phx_.., presence_state and
+presence_diff. A name of the channel's or the server's changes
+nothing, nor with --answered and --to-others. Give it to all nodes
+alike";
+
+pub(crate) const ANSWERED_HELP: &str = "The same for one that is answered ok too; up to 64 times";
+
+pub(crate) const TO_OTHERS_HELP: &str =
+    "The same for one that its sender doesn't get; up to 64 times";
+
+pub(crate) const PHOENIX_HELP: &str = "The same as --fractions, --match-joins and --event '*'
+What an application built on Phoenix needs";
 
 /// The options of all commands, which stand behind the program's help.
 pub const ALL_OPTIONS: &str = "Options of serve and stdio:
@@ -113,11 +165,15 @@ pub const ALL_OPTIONS: &str = "Options of serve and stdio:
                                clock, of stdio 1]
       --route <PATTERN>        A topic that may be joined; up to 64 times [default: room:*]
 
+Options of serve, stdio and fold:
+      --fractions              Allow any number in messages, as 1.50, 1e3 or one beyond 64 bits
+
 Options of serve:
       --port <PORT>            The port of clients, 1 to 65535 [default: 4000]
       --listen <ADDRESS>       The address of the port of clients [default: 127.0.0.1]
       --origin <ORIGIN>        Where pages may connect from; up to 64 times [default: any]
       --proxy <ADDRESS>        A proxy that is believed; up to 16 times [default: none]
+      --token-keys <FILE>      Keys of the tokens that clients show [default: they show none]
       --per-address <NUMBER>   Clients that one address may have, 1 to 65536 [default: half of all]
       --handshakes <NUMBER>    Handshakes a second of one address, 1 to 1000 [default: 20]
       --shards <NUMBER>        How many shards the topics are dealt to, 1 to 4 [default: 4]
@@ -133,6 +189,18 @@ Options of serve:
       --link-listen <ADDRESS>  The address of the port of links [default: 127.0.0.1]
       --link-from <ADDRESS>    Where links may come from; up to 64 times [default: anywhere]
       --link-version <NUMBER>  Up to which version links are spoken, 1 or 2 [default: 2]
+      --link-keys <FILE>       Keys that nodes show one another [default: they show none]
+      --phoenix                The same as --fractions, --match-joins and --event '*'
+      --match-joins            Answer what comes under an earlier join as not joined
+      --event <NAME>           An event of clients' own, to all who joined; up to 64 times
+      --answered <NAME>        The same for one that is answered ok too; up to 64 times
+      --to-others <NAME>       The same for one that its sender doesn't get; up to 64 times
+
+Options of token:
+      --key <FILE>             A file of keys as --token-keys has it: the first one signs
+      --sub <NAME>             The key under which it may be tracked [default: none, it looks]
+      --topics <PATTERN>       A topic that it may join; up to 64 times [default: all with a route]
+      --for <TIME>             How long the token lasts, as 90s, 30m, 1h or 7d [default: 1h]
 
 Options of stdio:
       --notices                Say on standard error who joins and leaves, as join a.1.2
@@ -206,6 +274,7 @@ A connection is closed with these codes:
   1008  the message was none of Phoenix Channels
   1009  the message was longer than 65536 bytes
   1011  the session failed
+  3000  the client's token has expired, or is taken no more
 A link is closed for these reasons:
   N1  the line is too long
   N2  the line is not JSON
@@ -225,9 +294,9 @@ A link is closed for these reasons:
 pub(crate) const STDIO_TAKES: &str =
     "stdio takes --name NAME, 1 to 32 characters of a-z, 0-9, --incarnation NUMBER, 1 to
 4611686018427387904, up to 64 times --route PATTERN, a topic or the front of topics with one *
-behind it, of 1 to 255 bytes, --notices and --explain;";
+behind it, of 1 to 255 bytes, --notices, --explain and --fractions;";
 
-pub(crate) const FOLD_TAKES: &str = "fold takes --explain;";
+pub(crate) const FOLD_TAKES: &str = "fold takes --explain and --fractions;";
 
 pub(crate) const SERVE_TAKES: &str =
     "serve takes --name NAME, 1 to 32 characters of a-z, 0-9, --incarnation NUMBER, 1 to
@@ -238,4 +307,11 @@ NAME=HOST:PORT, as often as one likes, --listen ADDRESS, --link-listen ADDRESS, 
 --link-from ADDRESS, up to 16 times --proxy ADDRESS, up to 64 times --origin ORIGIN, scheme://host
 or scheme://host:port, --per-address NUMBER, 1 to 65536, --handshakes NUMBER, 1 to 1000, --memory
 MB, 32 to 16777216, --topic-rows NUMBER, 1 to 1048576, --topic-bytes NUMBER, 1024 to 1073741824,
---log refused, all or none, and --log-format text or json";
+--log refused, all or none, --log-format text or json, --phoenix, --fractions, --match-joins, up to
+64 times each --event NAME, --answered NAME and --to-others NAME, of 1 to 64 bytes, --token-keys
+FILE and --link-keys FILE;";
+
+pub(crate) const TOKEN_TAKES: &str =
+    "token takes --key FILE, --sub NAME, up to 64 times --topics PATTERN, a topic or the front of
+topics with one * behind it, of 1 to 255 bytes, and --for TIME, a number with s, m, h or d behind
+it, of ten years at most";

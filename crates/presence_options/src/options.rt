@@ -6,12 +6,12 @@ ghost use Rattle.presence_base.specs.declared.names.TheConstants.{MAX_SHARDS};
 ghost use Rattle.presence_options.specs.declared.options.TheConstants.{MAX_LINK_FROM, MAX_LINK_VERSION, MAX_ORIGINS, MAX_PROXIES, MAX_WORKERS};
 
 use hook_registry::Routes;
-use presence_base::NodeName;
+use presence_base::{NodeName, Text};
 use std::net::IpAddr;
 
 /// What `stdio` runs as: the node's name, its incarnation, from 1 to `MAX_COUNT`, and the routes of
 /// its topics, of which each has its position, from 0, as its kind. `notices` asks for a notice of
-/// each row that joins or leaves, and `explain` for refusals in words too.
+/// each row that joins or leaves, and `explain` for refusals in words too. `fractions` allows any number in messages.
 #[derive(Debug, Drop)]
 pub struct StdioOptions {
     pub name: NodeName,
@@ -19,13 +19,15 @@ pub struct StdioOptions {
     pub routes: Routes,
     pub notices: bool,
     pub explain: bool,
+    pub fractions: bool,
     ghost is_count: { IsCount incarnation },
 }
 
-/// What `fold` runs as: `explain` asks for refusals in words too.
+/// What `fold` runs as: `explain` asks for refusals in words too, and `fractions` allows any number in frames.
 #[derive(Clone, Copy, PartialEq, Eq, Debug)]
 pub struct FoldOptions {
     pub explain: bool,
+    pub fractions: bool,
 }
 
 /// The highest version of links that a server speaks.
@@ -129,12 +131,31 @@ pub struct Reports {
     pub metrics_port: Option<u16>,
 }
 
+/// How many names of events an option is given at most.
+pub const MAX_EVENT_NAMES: usize = 64;
+
+/// How many bytes the name of an event has at most.
+pub const MAX_EVENT_BYTES: usize = 64;
+
+/// What clients may do beyond the usual: send any number in messages, have a message to a topic count only under the reference
+/// of the topic's present join, and send events of these names, `*` being that of all, to all who have joined, with an answer,
+/// and to all but themselves.
+#[derive(Debug, Drop)]
+pub struct ClientOptions {
+    pub fractions: bool,
+    pub match_joins: bool,
+    pub events: Vec<Text>,
+    pub answered: Vec<Text>,
+    pub to_others: Vec<Text>,
+}
+
 /// What `serve` runs as: the node and its routes as those of `stdio`, the ports of its clients and of
 /// links, from 1 on, of which that of links may be none, how many shards and workers there are, up to which version links
 /// are spoken, the nodes that are linked to, the addresses of both ports, and the origins whose pages may connect, or none
 /// where those of any may. Without an incarnation the node takes that of the clock. How many clients one address may have
 /// at once, and how many handshakes a second, are left to the server where they are none. Links come from any address where
-/// `link_from` is none. What `proxies` tell of their clients' addresses is believed.
+/// `link_from` is none. What `proxies` tell of their clients' addresses is believed. Clients show tokens that are signed under
+/// a key of the file `token_keys`, and nodes that they have one of `link_keys`, or nothing where there is no such file.
 #[derive(Debug, Drop)]
 pub struct ServeOptions {
     pub name: NodeName,
@@ -155,6 +176,9 @@ pub struct ServeOptions {
     pub link_from: Vec<IpAddr>,
     pub budgets: Budgets,
     pub reports: Reports,
+    pub clients: ClientOptions,
+    pub token_keys: Option<String>,
+    pub link_keys: Option<String>,
     ghost is_count: { ForSome incarnation IsCount },
     ghost few_origins: { vec_len origins ≤ MAX_ORIGINS },
     ghost few_proxies: { vec_len proxies ≤ MAX_PROXIES },
@@ -162,6 +186,19 @@ pub struct ServeOptions {
     ghost some_shards: { (0 < shards) × (shards ≤ MAX_SHARDS) },
     ghost some_workers: { (0 < workers) × (workers ≤ MAX_WORKERS) },
     ghost some_version: { (0 < link_version) × (link_version ≤ MAX_LINK_VERSION) },
+}
+
+/// The longest time that a token is written for, in seconds: ten years of 365 days.
+pub const MAX_LASTS: u64 = 315_360_000;
+
+/// What `token` writes: a token under the first key of the file `key`, for this subject and these topics, if they are named,
+/// that lasts for so many seconds.
+#[derive(Debug, Drop)]
+pub struct TokenOptions {
+    pub key: String,
+    pub subject: Option<String>,
+    pub topics: Option<Vec<String>>,
+    pub lasts: u64,
 }
 
 /// What a command line asks for.
@@ -176,4 +213,5 @@ pub enum Options {
     Stdio(StdioOptions),
     Fold(FoldOptions),
     Serve(ServeOptions),
+    Token(TokenOptions),
 }

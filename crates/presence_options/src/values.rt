@@ -238,15 +238,15 @@ pub(crate) fn handshakes_of(alloc: Global, text: &str) -> Result<u64, UsageFault
 }
 
 // What is wrong with a pattern that the routes refuse.
-fn wrong_route(alloc: Global, pattern: &str, fault: RouteFault) -> UsageFault
+fn wrong_route(alloc: Global, option: &str, pattern: &str, fault: RouteFault) -> UsageFault
     ensures { IsFor UsageCause.Route (fault ≡ RouteFault.OutOfMemory → ⊥) result }
 {
     let text = match fault {
         RouteFault::BadPattern => format!(in alloc;
-            "--route '{pattern}': a pattern is a topic, or the front of topics with one * behind it, of 1 to {MAX_PATTERN_BYTES} bytes"
+            "--{option} '{pattern}': a pattern is a topic, or the front of topics with one * behind it, of 1 to {MAX_PATTERN_BYTES} bytes"
         ),
         RouteFault::TooMany => format!(in alloc;
-            "--route '{pattern}': there are {MAX_ROUTES} routes before it, and no more are allowed"
+            "--{option} '{pattern}': there are {MAX_ROUTES} routes before it, and no more are allowed"
         ),
         RouteFault::OutOfMemory => return UsageFault::Memory,
     };
@@ -255,7 +255,13 @@ fn wrong_route(alloc: Global, pattern: &str, fault: RouteFault) -> UsageFault
 
 // Adds a route, or says what is wrong with its pattern.
 #[tactic(auto, using(crate::proofs::Patterns::few_before, crate::proofs::Patterns::patterns_more, crate::proofs::Patterns::may_not_follow))]
-fn add_route(alloc: Global, routes: &mut Routes, pattern: &str, kind: u32) -> Result<(), UsageFault>
+fn add_route(
+    alloc: Global,
+    option: &str,
+    routes: &mut Routes,
+    pattern: &str,
+    kind: u32,
+) -> Result<(), UsageFault>
     ensures added { OnOk result (routes.new ≡ routes.old ++ (pattern.now, kind) ∷ []) }
     ensures few { OnOk result (length routes.old < MAX_ROUTES) }
     ensures patterns { OnOk result (ArePatterns routes.old → ArePatterns routes.new) }
@@ -263,12 +269,12 @@ fn add_route(alloc: Global, routes: &mut Routes, pattern: &str, kind: u32) -> Re
 {
     match routes.add(alloc, pattern, kind) {
         Ok(()) => Ok(()),
-        Err(fault) => Err(wrong_route(alloc, pattern, fault)),
+        Err(fault) => Err(wrong_route(alloc, option, pattern, fault)),
     }
 }
 
-// The routes of these patterns, of which each has its position as its kind.
-fn numbered_routes(alloc: Global, patterns: &[&str]) -> Result<Routes, UsageFault>
+// The routes of these patterns, which this option is given, of which each has its position as its kind.
+fn numbered_routes(alloc: Global, option: &str, patterns: &[&str]) -> Result<Routes, UsageFault>
     ensures routes { IfOk result (λ routes. routes ≡ numbered 0 (map (λ p. p.now) patterns.now)) }
     ensures few { IfOk result (λ routes. length routes ≤ MAX_ROUTES) }
     ensures patterns { IfOk result ArePatterns }
@@ -277,20 +283,25 @@ fn numbered_routes(alloc: Global, patterns: &[&str]) -> Result<Routes, UsageFaul
     let mut routes = Routes::new(alloc);
     let mut kind: u32 = 0;
     for pattern in patterns {
-        add_route(alloc, &mut routes, pattern, kind)?;
+        add_route(alloc, option, &mut routes, pattern, kind)?;
         kind += 1;
     }
     Ok(routes)
 }
 
-/// The routes of these patterns, which are within their limits.
-#[tactic(auto, using(crate::proofs::Patterns::routes_within))]
-pub(crate) fn routes_of(alloc: Global, patterns: &[&str]) -> Result<Routes, UsageFault>
+/// The routes of these patterns, which this option is given, and which are within their limits.
+#[tactic(auto, using(crate::proofs::Patterns::routes_within, crate::proofs::Patterns::few_patterns))]
+pub(crate) fn routes_of(
+    alloc: Global,
+    option: &str,
+    patterns: &[&str],
+) -> Result<Routes, UsageFault>
     ensures routes { IfOk result (λ routes. routes ≡ numbered 0 (map (λ p. p.now) patterns.now)) }
     ensures within { IfOk result AreRoutes }
+    ensures few { OnOk result (AreFewPatterns (map (λ p. p.now) patterns.now)) }
     ensures cause { IfErr result (IsFor UsageCause.Route (AreFewPatterns (map (λ p. p.now) patterns.now) → ⊥)) }
 {
-    numbered_routes(alloc, patterns)
+    numbered_routes(alloc, option, patterns)
 }
 
 // The host and the port that a text is, cut at its last `:`.
@@ -364,8 +375,8 @@ pub(crate) fn peers_of(alloc: Global, texts: &[&str]) -> Result<Vec<PeerOption>,
     Ok(peers)
 }
 
-// Copies of these texts.
-fn copies_of(alloc: Global, texts: &[&str]) -> Result<Vec<String>, AllocError>
+/// Copies of these texts.
+pub(crate) fn copies_of(alloc: Global, texts: &[&str]) -> Result<Vec<String>, AllocError>
     ensures texts { IfOk result (λ copies. map string_bytes copies.items ≡ map (λ t. t.now) texts.now) }
     ensures len { IfOk result (λ copies. vec_len copies ≡ length texts.now) }
 {

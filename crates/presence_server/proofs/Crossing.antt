@@ -1,7 +1,8 @@
 -- What the threads of the server are given, and what they share, may cross to them. One search for each gives up,
 -- so it goes by the parts.
 use denote.RattleType.{RattleType}
-use denote.Param.Send.{IsSend, IsSync, sendable}
+use denote.Param.Send.{IsSend, IsSync, struct_send, sendable}
+use denote.Struct.Declared.{shape}
 use Rattle.std.proofs.Crossing as heap
 use Rattle.std.proofs.MapsCrossing as maps
 use Rattle.std.specs.declared.sync.ledger.Ledger as Ledger
@@ -13,8 +14,11 @@ use Rattle.serve_ports.specs.contracts.followers.Followers as Followers
 use Rattle.serve_connections.specs.contracts.leaving.Leavers as Leavers
 use Rattle.serve_connections.specs.contracts.long_texts.LongTexts as LongTexts
 use Rattle.serve_connections.proofs.Crossing.{worker_send}
-use Rattle.serve_sockets.proofs.Crossing.{client_stream_send, client_stream_row_send}
+use Rattle.serve_sockets.proofs.Crossing.{client_stream_row_send}
 use Rattle.hook_registry.specs.contracts.routes.Routes as Routes
+use Rattle.client_settings.specs.contracts.events.EventNames as EventNames
+use Rattle.client_settings.specs.contracts.events.OwnEvents as OwnEvents
+use Rattle.client_settings.specs.contracts.settings.Settings as Settings
 use Rattle.serve_metrics.specs.contracts.counts.Counts as Counts
 use Rattle.node_log.specs.contracts.log.Log as Log
 use Rattle.serve_rations.specs.contracts.budgets.TopicBudgets as TopicBudgets
@@ -24,6 +28,9 @@ use Rattle.presence_server.specs.contracts.bench.Bench as Bench
 use Rattle.presence_server.specs.contracts.draining.Drain as Drain
 use Rattle.presence_server.specs.contracts.ends.Ends as Ends
 use Rattle.presence_server.specs.contracts.growth.Growth as Growth
+use Rattle.presence_server.specs.contracts.key_ring.KeyRing as KeyRing
+use Rattle.presence_server.specs.contracts.key_ring.OwnKeys as OwnKeys
+use Rattle.hmac_keys.proofs.Crossing.{key_send, key_sync}
 use Rattle.presence_server.specs.contracts.received.Received as Received
 use Rattle.presence_server.specs.contracts.place.Workplace as Workplace
 use Rattle.presence_server.specs.contracts.server.WorkerMailbox as WorkerMailbox
@@ -49,7 +56,25 @@ budgets_sync = search (maps.crosses, heap.crosses, sendable) depth 60 fits 20000
 pub memory_sync : IsSync (MemoryMark.the_field).row
 memory_sync = search (maps.crosses, heap.crosses, sendable) depth 60 fits 20000
 
+names_send : IsSend (EventNames.the_field).row
+names_send = search (heap.crosses, sendable) depth 60 fits 20000
+
+names_sync : IsSync (EventNames.the_field).row
+names_sync = search (heap.crosses, sendable) depth 60 fits 20000
+
+events_sync : IsSync (OwnEvents.the_field).row
+events_sync = search (names_send, names_sync, heap.crosses, sendable) depth 60 fits 20000
+
+pub settings_sync : IsSync (Settings.the_field).row
+settings_sync = search (events_sync, sendable) depth 60 fits 20000
+
+pub keys_sync : IsSync (KeyRing.the_field).row
+keys_sync = search (key_send, key_sync, maps.crosses, heap.crosses, sendable) depth 60 fits 20000
+
 -- ---- what is given
+
+own_keys_send : IsSend (OwnKeys.the_field).row
+own_keys_send = search (key_send, key_sync, heap.crosses, sendable) depth 60 fits 20000
 
 watch_send : IsSend (Watch.the_field).row
 watch_send = search (heap.crosses, sendable) depth 60 fits 20000
@@ -81,7 +106,71 @@ drain_send = search (heap.crosses, sendable) depth 60 fits 20000
 module _ (L A B C D : RattleType) (lanes : Lanes.Ghosts L.Denot A.Denot B.Denot C.Denot D.Denot) (lane-a : Lane.Ghosts A.Denot) (lane-b : Lane.Ghosts B.Denot) (lane-c : Lane.Ghosts C.Denot) (lane-d : Lane.Ghosts D.Denot)
     (a : Ledger.Ghosts A.Denot) (b : Ledger.Ghosts B.Denot) (c : Ledger.Ghosts C.Denot) (d : Ledger.Ghosts D.Denot) where
   bench_send : IsSend (Bench.the_field L A B C D lanes lane-a a lane-b b lane-c c lane-d d).row
-  bench_send = search (seat_send, worker_send, client_stream_row_send, client_stream_send, watch_send, leavers_send, long_texts_send, followers_send, ends_send, growth_send, received_send, drain_send, rations_send, heap.crosses, sendable) depth 60 fits 20000
+  bench_send = struct_send (shape (Bench.the_type L A B C D lanes lane-a a lane-b b lane-c c lane-d d)) (
+    search (seat_send, sendable) depth 60 fits 20000,
+    (
+      search (rations_send, sendable) depth 60 fits 20000,
+      (
+        search (worker_send, client_stream_row_send, heap.crosses, sendable) depth 60 fits 20000,
+        (
+          search (watch_send, sendable) depth 60 fits 20000,
+          (
+            search (leavers_send, sendable) depth 60 fits 20000,
+            (
+              search (ends_send, sendable) depth 60 fits 20000,
+              (
+                search (followers_send, sendable) depth 60 fits 20000,
+                (
+                  search (long_texts_send, sendable) depth 60 fits 20000,
+                  (
+                    search sendable depth 60 fits 20000,
+                    (
+                      search sendable depth 60 fits 20000,
+                      (
+                        search sendable depth 60 fits 20000,
+                        (
+                          search sendable depth 60 fits 20000,
+                          (
+                            search sendable depth 60 fits 20000,
+                            (
+                              search sendable depth 60 fits 20000,
+                              (
+                                search sendable depth 60 fits 20000,
+                                (
+                                  search sendable depth 60 fits 20000,
+                                  (
+                                    search (growth_send, sendable) depth 60 fits 20000,
+                                    (
+                                      search (received_send, sendable) depth 60 fits 20000,
+                                      (
+                                        search sendable depth 60 fits 20000,
+                                        (
+                                          search (drain_send, sendable) depth 60 fits 20000,
+                                          (
+                                            search (own_keys_send, sendable) depth 60 fits 20000,
+                                            (
+                                                tt),
+                                          ),
+                                        ),
+                                      ),
+                                    ),
+                                  ),
+                                ),
+                              ),
+                            ),
+                          ),
+                        ),
+                      ),
+                    ),
+                  ),
+                ),
+              ),
+            ),
+          ),
+        ),
+      ),
+    ),
+  )
 
   pub place_send : IsSend (Workplace.the_field L A B C D lanes lane-a a lane-b b lane-c c lane-d d).row
   place_send = search (bench_send, sendable) depth 60 fits 20000

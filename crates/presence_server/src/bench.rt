@@ -1,8 +1,11 @@
 //! A worker's thread: it serves its connections in turns.
+ghost use Rattle.std.specs.Prelude.{◌≡◌, is_some};
+
 use crate::draining::{Drain, Due, count_anew, have_all_delivered, is_due, make_due, set_draining};
 use crate::ends::{Ends, ended_by};
 use crate::following::{add_newcomers, followed_by, followers_of, joined_topics, mark_followers};
 use crate::growth::Growth;
+use crate::key_ring::OwnKeys;
 use crate::received::Received;
 use crate::server::Server;
 use hook_registry::PresenceHooks;
@@ -12,7 +15,7 @@ use node_log::Level;
 use node_system::{Watch, number_of, resident_bytes};
 use node_threads::Taker;
 use serve_connections::{
-    Client, Leavers, LongTexts, Stage, Worker, hold_stalled, mark_put_off, resume_recovered,
+    Client, Leavers, LongTexts, Moment, Stage, Worker, hold_stalled, mark_put_off, resume_recovered,
 };
 use serve_metrics::{Checkpoint, Counts};
 use serve_ports::{CountingPort, Followed, Followers, HintingPort, Noted, PoolPort};
@@ -24,6 +27,7 @@ use std::rt::Files;
 use std::sync::{Arc, Wait};
 use std::thread;
 use std::time::{Clock, Duration};
+use tokens::Signing;
 use tungstenite::NoMask;
 
 /// So many rounds, of two turns each, may pass before what waits is sent, while clients have further messages.
@@ -126,6 +130,36 @@ fn outlook_of(client: &Client<ClientSocket>) -> Outlook {
     }
 }
 
+// Whether a client that is served may not go on.
+fn has_ended(client: &Client<ClientSocket>, signing: Option<Signing<'_>>) -> bool {
+    client.connection.stage == Stage::Open && client.connection.leave(signing).is_err()
+}
+
+// Clients that may not go on take the next turn, which ends them.
+fn mark_ended(worker: &mut Worker<ClientSocket>, signing: Option<Signing<'_>>) {
+    if signing.is_none() {
+        return;
+    }
+    for place in 0..worker.len() {
+        let token = match worker.at(place) {
+            Some(client) if has_ended(client, signing) => client.token,
+            _ => continue,
+        };
+        worker.mark(token);
+    }
+}
+
+// When a turn is taken.
+fn moment_of(milliseconds: u64, keys: &OwnKeys) -> Moment<'_>
+    ensures time { result.milliseconds ≡ milliseconds }
+    ensures signing { is_some result.signing ≡ is_some keys.now.keys }
+{
+    Moment {
+        milliseconds,
+        signing: keys.signing(),
+    }
+}
+
 // What came of a turn: what its port noted, and whether a journal was replaced by its Start.
 #[derive(Drop)]
 struct Served {
@@ -204,6 +238,7 @@ pub struct Bench<L: Lanes> {
     /// How many turns there were.
     turns: u64,
     drain: Drain,
+    keys: OwnKeys,
 }
 
 impl<L: Lanes> Drop for Bench<L> {
@@ -229,6 +264,7 @@ impl<L: Lanes> Drop for Bench<L> {
             received: _,
             turns: _,
             drain,
+            keys,
         } = self;
         drop(seat);
         drop(rations);
@@ -239,6 +275,7 @@ impl<L: Lanes> Drop for Bench<L> {
         drop(followers);
         drop(long_texts);
         drop(drain);
+        drop(keys);
     }
 }
 
@@ -251,8 +288,10 @@ impl<L: Lanes> Bench<L> {
         seat: Seat<L>,
         taker: Taker<WebSocket<ClientSocket, NoMask>>,
         watch: Watch,
+        keys: OwnKeys,
     ) -> Bench<L>
-        ensures { result.seat ≡ seat }
+        ensures seat { result.seat ≡ seat }
+        ensures keys { result.keys ≡ keys }
     {
         Bench {
             seat,
@@ -275,6 +314,7 @@ impl<L: Lanes> Bench<L> {
             received: Received::new(),
             turns: 0,
             drain: Drain::new(alloc),
+            keys,
         }
     }
 
@@ -303,6 +343,7 @@ impl<L: Lanes> Bench<L> {
             received: _,
             turns: _,
             drain,
+            keys,
         } = self;
         drop(rations);
         drop(worker);
@@ -312,13 +353,15 @@ impl<L: Lanes> Bench<L> {
         drop(followers);
         drop(long_texts);
         drop(drain);
+        drop(keys);
         seat
     }
 
-    // Takes the connections that wait.
+    // Takes the connections that wait. Where clients sign in, each does by the token that it has shown.
     fn take_in<R: Wait, H>(&mut self, rt: &R, server: &Server<'_, H, L>) {
         let served = self.worker.len();
-        let _later = self.worker.take_in(rt, server.alloc, self.now);
+        let now = moment_of(self.now, &self.keys);
+        let _later = self.worker.take_in(rt, server.alloc, now, server.settings);
         server
             .counts
             .began(self.worker.len().saturating_sub(served));
@@ -384,8 +427,9 @@ impl<L: Lanes> Bench<L> {
     ) -> Served {
         let mut port = port_at(rt, server, &mut self.seat, &mut self.rations);
         let (routes, hooks) = (server.routes, server.hooks);
+        let now = moment_of(self.now, &self.keys);
         self.worker
-            .turn(server.alloc, &mut port, routes, hooks, self.now);
+            .turn(server.alloc, &mut port, routes, hooks, now);
         served_by(server, port, self.now)
     }
 
@@ -403,8 +447,10 @@ impl<L: Lanes> Bench<L> {
     // Serves each connection that is ready, but for those whose clients take nothing, and of those with long texts some:
     // what was noted.
     fn serve<R: Wait, H: PresenceHooks>(&mut self, rt: &R, server: &Server<'_, H, L>) -> Noted {
-        self.stalls |= hold_stalled(&mut self.worker, self.now);
-        self.long_texts.hold(&mut self.worker);
+        let now = moment_of(self.now, &self.keys);
+        mark_ended(&mut self.worker, now.signing);
+        self.stalls |= hold_stalled(&mut self.worker, now);
+        self.long_texts.hold(&mut self.worker, now);
         let served = self.serve_ready(rt, server);
         mark_put_off(&mut self.worker);
         self.long_texts.resume(&mut self.worker);
@@ -414,7 +460,8 @@ impl<L: Lanes> Bench<L> {
     // Delivers what waits for each connection, but for those whose clients take nothing, and reads nothing: what was noted.
     fn deliver<R: Wait, H: PresenceHooks>(&mut self, rt: &R, server: &Server<'_, H, L>) -> Noted {
         self.worker.mark_all();
-        self.stalls |= hold_stalled(&mut self.worker, self.now);
+        let now = moment_of(self.now, &self.keys);
+        self.stalls |= hold_stalled(&mut self.worker, now);
         let served = self.deliver_ready(rt, server);
         self.noted_in(rt, server, served)
     }
@@ -489,18 +536,24 @@ impl<L: Lanes> Bench<L> {
         true
     }
 
-    // The checkpoints that are due, if this worker is the one that makes them: once no worker reads, what waited was
-    // delivered, and nothing waits. Behind them all workers read again once each has delivered the fresh states, since a
-    // subscriber that is owed one is told of nothing that comes before it. Neither is waited for without end.
+    // All workers read again, behind the checkpoints of which this came.
+    fn read_again<H>(&mut self, server: &Server<'_, H, L>, due: Due) {
+        self.drain.end(self.now, due, server.memory.is_tight());
+        set_draining(server, false);
+        server.look();
+    }
+
+    // The checkpoints that are due, if this worker is the one that makes them: once no worker reads, and what waited was
+    // delivered. Where nothing waits nobody is owed anything behind them. Where that was waited for too long, the workers read
+    // again once each has delivered the fresh states, since a subscriber that is owed one is told of nothing that comes before
+    // it. Neither is waited for without end.
     fn make_checkpoints<R: Wait, H>(&mut self, rt: &R, server: &Server<'_, H, L>) {
         let is_over = self.drain.is_over(self.now);
         if !self.drain.leads() || !have_all_delivered(server) && !is_over {
             return;
         }
         if let Some(due) = self.drain.made() {
-            self.drain.end(self.now, due, server.memory.is_tight());
-            set_draining(server, false);
-            server.look();
+            self.read_again(server, due);
             return;
         }
         self.drain.give_reserve(server.alloc);
@@ -509,9 +562,13 @@ impl<L: Lanes> Bench<L> {
         if due == Due::Waits {
             return;
         }
+        server.pool.trim(rt, &mut self.seat);
+        if due == Due::Made {
+            self.read_again(server, due);
+            return;
+        }
         self.drain.make(due);
         count_anew(server);
-        server.pool.trim(rt, &mut self.seat);
     }
 
     // Delivers and sends what waits, and reads nothing.
@@ -647,6 +704,7 @@ impl<L: Lanes> Bench<L> {
         server: &Server<'_, H, L>,
     ) {
         for _ in 0..MAX_LAST_TURNS {
+            self.keys.look(rt, &server.keys);
             self.take_in(rt, server);
             self.worker.stop_all();
             let _told = self.serve(rt, server);
@@ -700,6 +758,7 @@ impl<L: Lanes> Bench<L> {
         server: &Server<'_, H, L>,
         own: usize,
     ) {
+        self.keys.look(rt, &server.keys);
         self.take_in(rt, server);
         if self.is_draining(server, own) {
             self.drain(rt, server, own);

@@ -1,8 +1,9 @@
 //! The thread at the door: it takes connections, does their handshakes and hands them to the workers.
-ghost use Rattle.std.specs.Prelude.{◌<◌};
+ghost use Rattle.std.specs.Prelude.{◌≡◌, ◌<◌, IfOk};
 
 use crate::caller::{Caller, next_caller};
 use crate::files::client_files;
+use crate::key_ring::OwnKeys;
 use crate::neighbours::{AddressLimits, Neighbours};
 use crate::pulse::Pulse;
 use crate::reasons::dropped_by;
@@ -69,6 +70,10 @@ struct Reception {
 }
 
 impl Keeper<ClientSocket> for Reception {
+    ghost use Rattle.std.specs.Prelude.{option_map};
+
+    ghost shown = { λ s. option_map (λ v. v.items) s.token };
+
     fn standing_of(
         &mut self,
         alloc: Global,
@@ -87,6 +92,10 @@ impl Keeper<ClientSocket> for Reception {
 
     fn hang_up(&mut self, stream: &mut ClientSocket) {
         let _lost = stream.stream().shutdown(Shutdown::Write);
+    }
+
+    fn shows(&mut self, stream: &mut ClientSocket, token: Vec<u8>) {
+        stream.show(token);
     }
 }
 
@@ -127,6 +136,7 @@ pub struct Door {
     caught_up: u64,
     /// Whether there may be more to take at once.
     more: bool,
+    keys: OwnKeys,
 }
 
 impl Drop for Door {
@@ -149,6 +159,7 @@ impl Drop for Door {
             looked: _,
             caught_up: _,
             more: _,
+            keys,
         } = self;
         drop(entries);
         drop(spare);
@@ -160,6 +171,7 @@ impl Drop for Door {
         drop(seated);
         drop(queued);
         drop(waiting);
+        drop(keys);
     }
 }
 
@@ -179,6 +191,14 @@ impl DoorLimits {
             addresses,
         }
     }
+}
+
+/// Where clients come in, and those who ask for metrics alone, how many are let in, and the keys under which they sign in.
+#[derive(Drop)]
+pub struct Entrance {
+    pub entries: Entries,
+    pub limits: DoorLimits,
+    pub keys: OwnKeys,
 }
 
 // What is said where no further file can be opened, and where it is over.
@@ -226,11 +246,17 @@ impl Door {
     /// The listening sockets are watched as `LISTENER` and `METRICS_LISTENER`.
     pub fn new(
         alloc: Global,
-        entries: Entries,
+        entrance: Entrance,
         giver: Giver<WebSocket<ClientSocket, NoMask>>,
         watch: Watch,
-        limits: DoorLimits,
-    ) -> Result<Door, AllocError> {
+    ) -> Result<Door, AllocError>
+        ensures { IfOk result (λ door. door.keys ≡ entrance.keys) }
+    {
+        let Entrance {
+            entries,
+            limits,
+            keys,
+        } = entrance;
         let spare = entries.clients.try_clone().ok();
         Ok(Door {
             entries,
@@ -253,6 +279,7 @@ impl Door {
             looked: 0,
             caught_up: 0,
             more: true,
+            keys,
         })
     }
 
@@ -525,15 +552,16 @@ impl Door {
     }
 
     // Goes on with the handshakes, and answers what else is asked for: the sockets of those that are done.
-    fn opened<R: Wait + Clock + Files + Eprint, H, L: Lanes>(
+    fn opened<'x, R: Wait + Clock + Files + Eprint, H, L: Lanes>(
         &mut self,
-        rt: &R,
-        server: &Server<'_, H, L>,
+        rt: &'x R,
+        server: &'x Server<'_, H, L>,
     ) -> Result<Vec<Opened<ClientSocket>>, AllocError> {
         let places = self.places_left();
         let has_metrics = self.entries.metrics.is_none();
         let pulse = Pulse { rt, server };
         let mut reception = self.reception(server.alloc);
+        let signing = self.keys.signing();
         let mut front = Front {
             origins: server.origins,
             has_clients: true,
@@ -542,6 +570,7 @@ impl Door {
             places,
             tells: &pulse,
             keeper: &mut reception,
+            signing,
         };
         let opened = self.guests.turn(server.alloc, &mut front);
         self.give_back(reception);
@@ -549,13 +578,14 @@ impl Door {
     }
 
     // Answers who asks for metrics alone.
-    fn answer_observers<R: Wait + Clock + Files + Eprint, H, L: Lanes>(
+    fn answer_observers<'x, R: Wait + Clock + Files + Eprint, H, L: Lanes>(
         &mut self,
-        rt: &R,
-        server: &Server<'_, H, L>,
+        rt: &'x R,
+        server: &'x Server<'_, H, L>,
     ) {
         let pulse = Pulse { rt, server };
         let mut reception = self.reception(server.alloc);
+        let signing = self.keys.of_observers();
         let mut front = Front {
             origins: &[],
             has_clients: false,
@@ -564,6 +594,7 @@ impl Door {
             places: 0,
             tells: &pulse,
             keeper: &mut reception,
+            signing,
         };
         let _opened = self.observers.turn(server.alloc, &mut front);
         self.give_back(reception);
@@ -668,6 +699,7 @@ impl Door {
             }
             self.take_in(rt, server);
             self.take_observers(server.alloc);
+            self.keys.look(rt, &server.keys);
             self.greet(rt, server);
             self.hand_on(rt, server);
             self.pause(rt);

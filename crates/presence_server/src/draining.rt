@@ -15,7 +15,7 @@ use std::sync::atomic::Ordering;
 const LOOK_MILLISECONDS: u64 = 5;
 
 /// So long nothing is read at most before a checkpoint is made though something waits, in milliseconds, and so long at most
-/// behind it, until the fresh states were delivered.
+/// behind such a one, until the fresh states were delivered.
 const MAX_DRAIN_MILLISECONDS: u64 = 100;
 
 /// When a worker has ended so many turns that read nothing, one of them was begun since they are counted.
@@ -25,7 +25,7 @@ const WHOLE_TURNS: u64 = 2;
 /// was made since memory was refused to a call.
 const REST_MILLISECONDS: u64 = 1_000;
 
-/// So long behind a checkpoint tight memory makes no journal due, in milliseconds: each gives clients whole states.
+/// So long behind a checkpoint tight memory makes no journal due, in milliseconds: one may give clients whole states.
 const TIGHT_MILLISECONDS: u64 = 30_000;
 
 /// So many bytes are held back for a checkpoint, where there is no other memory.
@@ -53,12 +53,26 @@ pub(crate) struct Drain {
 /// What came of a try at the checkpoints that are due.
 #[derive(Clone, Copy, PartialEq, Eq)]
 pub(crate) enum Due {
-    /// None is due any more.
+    /// None is due any more, and nobody is owed anything by that.
     Made,
+    /// None is due any more, and fresh states are owed, since something waited.
+    Owed,
     /// Something waits.
     Waits,
     /// Memory was refused.
     Refused,
+}
+
+impl Due {
+    // What came of both tries.
+    fn and(self, other: Due) -> Due {
+        match (self, other) {
+            (Due::Refused, _) | (_, Due::Refused) => Due::Refused,
+            (Due::Waits, _) | (_, Due::Waits) => Due::Waits,
+            (Due::Owed, _) | (_, Due::Owed) => Due::Owed,
+            (Due::Made, Due::Made) => Due::Made,
+        }
+    }
 }
 
 impl Drain {
@@ -229,33 +243,35 @@ pub(crate) fn have_all_delivered<H, L: Lanes>(server: &Server<'_, H, L>) -> bool
     true
 }
 
-// Tries the checkpoint of a shard, if it is due: where something waits only if that is waited for no longer.
+// Tries the checkpoint of a shard, if it is due: one that nobody feels, or else, where what waits is waited for no longer, one
+// behind which each subscriber is owed the state of its topic.
 fn make_at<R: Wait, H, L: Lanes>(
     rt: &R,
     server: &Server<'_, H, L>,
     is_tight: bool,
     is_over: bool,
     shard: u32,
-) -> Result<bool, PoolFault>
+) -> Result<Due, PoolFault>
     requires { shard < server.now.pool.shards }
 {
     let load = load_at(rt, server, shard);
     if !load.is_due(is_tight) {
-        return Ok(true);
+        return Ok(Due::Made);
     }
-    let is_made = if is_over {
-        server.pool.checkpoint(rt, server.alloc, shard)?;
-        true
-    } else {
-        let due = load.due_from(is_tight);
-        server
-            .pool
-            .checkpoint_where_quiet(rt, server.alloc, shard, due)?
-    };
-    if is_made {
+    let due = load.due_from(is_tight);
+    if server
+        .pool
+        .checkpoint_where_quiet(rt, server.alloc, shard, due)?
+    {
         server.counts.made(Checkpoint::Due);
+        return Ok(Due::Made);
     }
-    Ok(is_made)
+    if !is_over {
+        return Ok(Due::Waits);
+    }
+    server.pool.checkpoint(rt, server.alloc, shard)?;
+    server.counts.made(Checkpoint::Due);
+    Ok(Due::Owed)
 }
 
 /// Tries each checkpoint that is due, where memory is tight or isn't.
@@ -268,8 +284,7 @@ pub(crate) fn make_due<R: Wait, H, L: Lanes>(
     let mut due = Due::Made;
     for shard in 0..server.links.shards() {
         match make_at(rt, server, is_tight, is_over, shard) {
-            Ok(true) => {}
-            Ok(false) => due = Due::Waits,
+            Ok(at_shard) => due = due.and(at_shard),
             Err(_) => return Due::Refused,
         }
     }

@@ -13,6 +13,7 @@ mod ends;
 mod files;
 mod following;
 mod growth;
+mod key_ring;
 pub mod laws;
 mod load;
 mod neighbours;
@@ -24,7 +25,8 @@ mod runtime;
 mod server;
 
 pub use bench::Bench;
-pub use door::{Door, DoorLimits, Entries, LISTENER, METRICS_LISTENER};
+pub use door::{Door, DoorLimits, Entrance, Entries, LISTENER, METRICS_LISTENER};
+pub use key_ring::{KeyRing, OwnKeys};
 pub use neighbours::AddressLimits;
 pub use place::{Workplace, seats_of};
 pub use runtime::ServeRuntime;

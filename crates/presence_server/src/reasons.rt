@@ -7,7 +7,8 @@ use serve_metrics::Dropped;
 pub(crate) fn told_of(answer: Answer) -> Option<Reason> {
     match answer {
         Answer::Socket(_) => Some(Reason::Opened),
-        Answer::Page | Answer::Health | Answer::Metrics | Answer::Options | Answer::Unwell => None,
+        Answer::Page | Answer::Script | Answer::Health | Answer::Metrics => None,
+        Answer::Options | Answer::Unwell => None,
         Answer::BadRequest | Answer::NoHost => Some(Reason::BadRequest),
         Answer::Forbidden => Some(Reason::Forbidden),
         Answer::NotFound | Answer::Elsewhere => Some(Reason::NotFound),
@@ -17,6 +18,7 @@ pub(crate) fn told_of(answer: Answer) -> Option<Reason> {
         Answer::Full => Some(Reason::Full),
         Answer::Crowded => Some(Reason::Crowded),
         Answer::Hasty => Some(Reason::Hasty),
+        Answer::Unauthorized(_) => Some(Reason::Unauthorized),
     }
 }
 

@@ -2,7 +2,9 @@
 ghost use Rattle.std.specs.Prelude.{◌≡◌};
 
 use crate::door::Door;
+use crate::key_ring::KeyRing;
 use crate::place::Workplace;
+use client_settings::Settings;
 use hook_registry::{PresenceHooks, Routes};
 use link_threads::{LinkRuntime, LinkTask, Links, Wakes};
 use node_log::Log;
@@ -72,6 +74,8 @@ pub struct Server<'a, H, L: Lanes> {
     pub pool: Pool<NoGate, L>,
     pub routes: &'a Routes,
     pub hooks: &'a H,
+    /// What clients may do beyond the usual.
+    pub settings: &'a Settings,
     /// Pages of these origins may open a WebSocket, or those of any where none is named.
     pub origins: &'a [String],
     /// What these tell of their clients' addresses is believed.
@@ -90,6 +94,8 @@ pub struct Server<'a, H, L: Lanes> {
     pub door_bell: Bell,
     pub links: Links,
     pub stopped: AtomicBool,
+    /// Under which keys clients sign in, if they have to.
+    pub keys: KeyRing,
     ghost all_shards: { links.shards ≡ pool.shards },
 }
 
@@ -100,6 +106,7 @@ impl<'a, H, L: Lanes> Drop for Server<'a, H, L> {
             pool,
             routes: _,
             hooks: _,
+            settings: _,
             origins: _,
             proxies: _,
             budgets,
@@ -112,6 +119,7 @@ impl<'a, H, L: Lanes> Drop for Server<'a, H, L> {
             door_bell,
             links,
             stopped,
+            keys,
         } = self;
         drop(pool);
         drop(budgets);
@@ -122,6 +130,7 @@ impl<'a, H, L: Lanes> Drop for Server<'a, H, L> {
         drop(door_bell);
         drop(links);
         drop(stopped);
+        drop(keys);
     }
 }
 
@@ -171,6 +180,7 @@ impl<'a, H, L: Lanes> Server<'a, H, L> {
             pool,
             routes: _,
             hooks: _,
+            settings: _,
             origins: _,
             proxies: _,
             budgets,
@@ -183,6 +193,7 @@ impl<'a, H, L: Lanes> Server<'a, H, L> {
             door_bell,
             links,
             stopped,
+            keys,
         } = self;
         drop(budgets);
         drop(memory);
@@ -192,6 +203,7 @@ impl<'a, H, L: Lanes> Server<'a, H, L> {
         drop(door_bell);
         drop(links);
         drop(stopped);
+        drop(keys);
         pool
     }
 }

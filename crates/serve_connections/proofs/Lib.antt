@@ -1,4 +1,8 @@
 pub mod Marks
+mod GrantLemmas
+mod PlainLemmas
+mod SigningLemmas
+mod Renewals
 mod PieceLemmas
 mod Turnings
 mod Sparings

@@ -5,6 +5,7 @@ use Rattle.std.proofs.lemmas.Bool.{cases_eq}
 use Rattle.slab.specs.Slab.{Slab, get, with_value, Updates}
 use Rattle.slab.proofs.SlabLemmas.{Updates-with_value}
 use Rattle.serve_connections.specs.declared.client.Client.{Client}
+use Rattle.serve_connections.specs.declared.moment.Moment.{Moment}
 use Rattle.serve_connections.specs.Turning.{Around}
 use Rattle.serve_connections.specs.Working.{Serves, Delivers, SendsIf, ended_at, goes_on, has_ended}
 use Rattle.serve_connections.specs.Places.{AreKept, AreLeft, left, served}
@@ -151,7 +152,7 @@ module _ {S : Type 0} where
 
   -- ---- one that has nothing to do is passed over
 
-  unready_serves : {P : Type 0} (w : Around S P) (routes : List (List ℕ × ℕ)) (now : ℕ) (c : Client S) (p : P) → c.ready ≡ false → Serves w routes now c c p p
+  unready_serves : {P : Type 0} (w : Around S P) (routes : List (List ℕ × ℕ)) (now : Moment) (c : Client S) (p : P) → c.ready ≡ false → Serves w routes now c c p p
   unready_serves w routes now c p e = rw e (refl, refl)
 
   unready_delivers : {P : Type 0} (w : Around S P) (c : Client S) (p : P) → c.ready ≡ false → Delivers w c c p p
@@ -164,7 +165,7 @@ module _ {S : Type 0} where
       → AreAtRest slab notes ks → get slab (get_or ks i z) ≡ Some c → rests c ≡ true
   rests_in slab notes ks i z c lt n h e = rw e at (rest_here slab notes ks i z lt h n)
 
-  pub serves_over : {P : Type 0} (w : Around S P) (routes : List (List ℕ × ℕ)) (now : ℕ) (first slab : Slab (Client S)) (notes : List Bool) (ks : List ℕ) (i z : ℕ) (a b : P)
+  pub serves_over : {P : Type 0} (w : Around S P) (routes : List (List ℕ × ℕ)) (now : Moment) (first slab : Slab (Client S)) (notes : List Bool) (ks : List ℕ) (i z : ℕ) (a b : P)
       → i < length ks → is_noted notes (get_or ks i z) ≡ true → AreAtRest slab notes ks
       → AreKept slab ks × ChainedTo (Serves w routes now) (served first ks) (served slab ks) i a b
       → AreKept slab ks × ChainedTo (Serves w routes now) (served first ks) (served slab ks) (i + 1) a b

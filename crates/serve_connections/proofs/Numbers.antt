@@ -3,18 +3,19 @@ use Rattle.std.proofs.Common.{◌≡◌, ℕ, ◌<◌, ◌≤◌, Bool, true, fa
 use Rattle.std.specs.Prelude.{Option, filter, cond}
 use Rattle.serve_connections.specs.Turning.{Around}
 use Rattle.serve_connections.specs.declared.client.Client.{Client}
+use Rattle.serve_connections.specs.declared.moment.Moment.{Moment}
 use Rattle.serve_connections.specs.Working.{Pairwise, RisesBetween, ServesIf, ServesAll, DeliversIf, DeliversAll, SendsIf, StopsOne, goes_on, held, marked, readied}
 
 -- a turn keeps the number
-serves_number : {S P : Type 0} (w : Around S P) (routes : List (List ℕ × ℕ)) (now : ℕ) (ready : Bool) (c d : Client S) (before after : P) → ServesIf w routes now ready c d before after → d.number ≡ c.number
+serves_number : {S P : Type 0} (w : Around S P) (routes : List (List ℕ × ℕ)) (now : Moment) (ready : Bool) (c d : Client S) (before after : P) → ServesIf w routes now ready c d before after → d.number ≡ c.number
 serves_number w routes now true c d before after h = ap (λ x. x.number) h.client
 serves_number w routes now false c d before after h = ap (λ x. x.number) h.0
 
-pub serves_token : {S P : Type 0} (w : Around S P) (routes : List (List ℕ × ℕ)) (now : ℕ) (ready : Bool) (c d : Client S) (before after : P) → ServesIf w routes now ready c d before after → d.token ≡ c.token
+pub serves_token : {S P : Type 0} (w : Around S P) (routes : List (List ℕ × ℕ)) (now : Moment) (ready : Bool) (c d : Client S) (before after : P) → ServesIf w routes now ready c d before after → d.token ≡ c.token
 serves_token w routes now true c d before after h = ap (λ x. x.token) h.client
 serves_token w routes now false c d before after h = ap (λ x. x.token) h.0
 
-pub serves_rising : {S P : Type 0} (w : Around S P) (routes : List (List ℕ × ℕ)) (now floor top : ℕ) (cs ds : List (Client S)) (before after : P) → ServesAll w routes now cs ds before after → RisesBetween floor top cs → RisesBetween floor top ds
+pub serves_rising : {S P : Type 0} (w : Around S P) (routes : List (List ℕ × ℕ)) (now : Moment) (floor top : ℕ) (cs ds : List (Client S)) (before after : P) → ServesAll w routes now cs ds before after → RisesBetween floor top cs → RisesBetween floor top ds
 serves_rising w routes now floor top [] [] before after h r = r
 serves_rising w routes now floor top [] (d ∷ ds) before after h r = absurd h
 serves_rising w routes now floor top (c ∷ cs) [] before after h r = absurd h

@@ -1,5 +1,5 @@
 -- What was done over a port that gives long states in pieces was done over the port inside, and what is untold.
-use Rattle.std.proofs.Common.{◌≡◌, ◌==◌, ◌⊎◌, ℕ, Bool, true, false, List, Option, Result, Ok, Err, inl, inr, refl, ap}
+use Rattle.std.proofs.Common.{◌≡◌, ◌==◌, ℕ, Bool, true, false, List, Option, Result, Ok, Err, inl, inr, refl, ap}
 use Rattle.std.specs.Prelude.{String, Vec}
 use Rattle.std.specs.Global.{Global}
 use Rattle.phx_message.specs.declared.message.Message.{Message}
@@ -32,7 +32,7 @@ module _ {A B : Type 0} (R : A → (q : Ask) → Answer q → A → Type 0) (S :
   untouched_along : (a b : A) (after : InForce) → Untouched s a b after → Untouched s (f a) (f b) after
   untouched_along a b after h = record { port = ap f h.port; session = h.session }
 
-  ended_along : (reading : Result Message MessageFault) (a b : A) (after : InForce) (r : Result (List Said) SessionFault) → EndedSo R routes s reading a b after r → EndedSo S routes s reading (f a) (f b) after r
+  pub ended_along : (reading : Result Message MessageFault) (a b : A) (after : InForce) (r : Result (List Said) SessionFault) → EndedSo R routes s reading a b after r → EndedSo S routes s reading (f a) (f b) after r
   ended_along reading a b after (Ok said) (e, h) = (e, read_along reading a b after (Ok said) h)
   ended_along reading a b after (Err Failed) (e, h) = (e, untouched_along a b after h)
   ended_along reading a b after (Err (BadMessage x)) (e, r, h) = (e, r, untouched_along a b after h)
@@ -46,7 +46,7 @@ module _ {A N : Type 0} (R : A → (q : Ask) → Answer q → A → Type 0) (k :
   message_keeps m a b after (Ok said) h = kept_along R k keeps h.0.made a b h.0.calls
   message_keeps m a b after (Err fault) h = kept_along R k keeps h.calls.made a b h.calls.calls
 
-  ended_keeps : (reading : Result Message MessageFault) (a b : A) (after : InForce) (r : Result (List Said) SessionFault) → EndedSo R routes s reading a b after r → k b ≡ k a
+  pub ended_keeps : (reading : Result Message MessageFault) (a b : A) (after : InForce) (r : Result (List Said) SessionFault) → EndedSo R routes s reading a b after r → k b ≡ k a
   ended_keeps reading a b after (Ok said) (e, h) = message_keeps h.message a b after (Ok said) h.ran
   ended_keeps reading a b after (Err Failed) (e, h) = ap k h.port
   ended_keeps reading a b after (Err (BadMessage x)) (e, r, h) = ap k h.port

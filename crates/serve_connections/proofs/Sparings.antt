@@ -1,7 +1,7 @@
 -- What was done over one port was done over another, where each call was.
 use Rattle.std.proofs.Common.{◌≡◌, ◌-◌, ◌+◌, ℕ, Bool, true, false, List, [], ◌∷◌, Result, Ok, Err, drop, refl, sym, ap, ◌∙◌, subst}
 use Rattle.channel_rules.specs.Asks.{Ask, Answer, Call, Made}
-use Rattle.channel_session.specs.Delivery.{CutShort, Delivered, DeliveredBy, InForce}
+use Rattle.channel_session.specs.Delivery.{Delivered, DeliveredBy, InForce}
 use Rattle.channel_session.specs.declared.frames.Delivery.{Delivery}
 use Rattle.channel_rules.specs.Outcome.{Follows}
 use Rattle.channel_session.specs.Ran.{said_by}

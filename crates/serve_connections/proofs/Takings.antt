@@ -2,7 +2,9 @@
 use Rattle.std.proofs.Common.{◌≡◌, ℕ, ◌+◌, ◌≤◌, List, [], ◌∷◌, ◌++◌, length, refl, sym, ap, ◌∙◌, subst, Option, Some, None, Result, Ok, Err, arith}
 use Rattle.std.specs.declared.alloc.AllocError.{AllocError}
 use Rattle.std.specs.List.{AllByRecursion}
+use Rattle.client_settings.specs.declared.settings.Settings.{Settings}
 use Rattle.serve_connections.specs.declared.client.Client.{Client}
+use Rattle.serve_connections.specs.declared.moment.Moment.{Moment}
 use Rattle.serve_connections.specs.declared.worker.NoMore.{NoMore}
 use Rattle.serve_connections.specs.declared.worker.TheConstants.{MAX_CONNECTIONS}
 use Rattle.serve_connections.specs.Working.{EndsAt, IsNew, NoneLost, TakesIn, TakesOne}
@@ -19,22 +21,22 @@ all_more : {X : Type 0} (P : X → Type 0) (xs : List X) (x : X) → AllByRecurs
 all_more P [] x h p = (p, tt {0})
 all_more P (y ∷ xs) x h p = (h.0, all_more P xs x h.1 p)
 
-pub takes_none : {S : Type 0} (now : ℕ) (old new : List (Client S)) → new ≡ old → TakesIn now old new
-takes_none now old new e = record { taken = []; new_ones = tt {0}; behind = e ∙ sym (append_none old) }
+pub takes_none : {S : Type 0} (settings : Settings) (carried : S → Option (List ℕ)) (now : Moment) (old new : List (Client S)) → new ≡ old → TakesIn settings carried now old new
+takes_none settings carried now old new e = record { taken = []; new_ones = tt {0}; behind = e ∙ sym (append_none old) }
 
-pub takes_more : {S : Type 0} (now : ℕ) (old mid new : List (Client S)) (c : Client S) → IsNew now c → new ≡ mid ++ c ∷ [] → TakesIn now old mid → TakesIn now old new
-takes_more {S} now old mid new c is e h =
+pub takes_more : {S : Type 0} (settings : Settings) (carried : S → Option (List ℕ)) (now : Moment) (old mid new : List (Client S)) (c : Client S) → IsNew settings carried now c → new ≡ mid ++ c ∷ [] → TakesIn settings carried now old mid → TakesIn settings carried now old new
+takes_more {S} settings carried now old mid new c is e h =
     record {
       taken = h.taken ++ c ∷ [];
-      new_ones = all_more (IsNew now) h.taken c h.new_ones is;
+      new_ones = all_more (IsNew settings carried now) h.taken c h.new_ones is;
       behind = e ∙ ap (λ (l : List (Client S)). l ++ c ∷ []) h.behind ∙ append_one old h.taken c;
     }
 
 -- one look at the queue more
-pub takes_by : {S : Type 0} (now : ℕ) (old mid new : List (Client S)) (r : Result (Option NoMore) AllocError) → TakesOne now mid new r → TakesIn now old mid → TakesIn now old new
-takes_by now old mid new (Ok None) one h = takes_more now old mid new one.0 one.1 one.2 h
-takes_by {S} now old mid new (Ok (Some why)) one h = subst (λ (l : List (Client S)). TakesIn now old l) (sym one.0) h
-takes_by {S} now old mid new (Err e) one h = subst (λ (l : List (Client S)). TakesIn now old l) (sym one) h
+pub takes_by : {S : Type 0} (settings : Settings) (carried : S → Option (List ℕ)) (now : Moment) (old mid new : List (Client S)) (r : Result (Option NoMore) AllocError) → TakesOne settings carried now mid new r → TakesIn settings carried now old mid → TakesIn settings carried now old new
+takes_by settings carried now old mid new (Ok None) one h = takes_more settings carried now old mid new one.0 one.1 one.2 h
+takes_by {S} settings carried now old mid new (Ok (Some why)) one h = subst (λ (l : List (Client S)). TakesIn settings carried now old l) (sym one.0) h
+takes_by {S} settings carried now old mid new (Err e) one h = subst (λ (l : List (Client S)). TakesIn settings carried now old l) (sym one) h
 
 -- ---- none is lost
 
@@ -59,14 +61,14 @@ lost_not before after cs news c e n =
 -- ---- why no more are taken
 
 -- a look that took one
-pub took_by : {S : Type 0} (now : ℕ) (mid new : List (Client S)) (r : Result (Option NoMore) AllocError) → TakesOne now mid new r → r ≡ Ok None → length new ≡ length mid + 1
-took_by {S} now mid new r one e =
-    let took = subst (λ z. TakesOne {S = S} now mid new z) e one in
+pub took_by : {S : Type 0} (settings : Settings) (carried : S → Option (List ℕ)) (now : Moment) (mid new : List (Client S)) (r : Result (Option NoMore) AllocError) → TakesOne settings carried now mid new r → r ≡ Ok None → length new ≡ length mid + 1
+took_by {S} settings carried now mid new r one e =
+    let took = subst (λ z. TakesOne {S = S} settings carried now mid new z) e one in
     ap length took.2 ∙ one_longer mid took.0
 
 -- a look that took none tells why
-pub ends_by : {S : Type 0} (now : ℕ) (mid new : List (Client S)) (r : Result (Option NoMore) AllocError) (why : NoMore) → TakesOne now mid new r → r ≡ Ok (Some why) → EndsAt new why
-ends_by {S} now mid new r why one e = (subst (λ z. TakesOne {S = S} now mid new z) e one).1
+pub ends_by : {S : Type 0} (settings : Settings) (carried : S → Option (List ℕ)) (now : Moment) (mid new : List (Client S)) (r : Result (Option NoMore) AllocError) (why : NoMore) → TakesOne settings carried now mid new r → r ≡ Ok (Some why) → EndsAt new why
+ends_by {S} settings carried now mid new r why one e = (subst (λ z. TakesOne {S = S} settings carried now mid new z) e one).1
 
 -- one more was taken in each of so many looks
 pub counted : (first mid new i : ℕ) → mid ≡ first + i → new ≡ mid + 1 → new ≡ first + (i + 1)

@@ -1,6 +1,12 @@
 pub mod Marks
 pub mod Causes
+pub mod Granted
 pub mod Hearing
+pub mod Plainly
+pub mod Renewing
+pub mod Signed
+pub mod SigningIn
+pub mod SigningLaws
 pub mod Sparing
 pub mod Turning
 pub mod Working

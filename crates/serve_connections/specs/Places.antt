@@ -5,6 +5,7 @@ use denote.Struct.Props as logic
 use Rattle.slab.specs.Slab.{Slab, get}
 use Rattle.serve_connections.specs.declared.client.Client.{Client}
 use Rattle.serve_connections.specs.Turning.{Around}
+use Rattle.serve_connections.specs.declared.moment.Moment.{Moment}
 use Rattle.serve_connections.specs.Working.{goes_on, DeliversAll, ServesAll}
 
 module _ {S : Type 0} where
@@ -52,7 +53,7 @@ module _ {S : Type 0} where
 
 module _ {S P : Type 0} (w : Around S P) where
   -- each ready one takes its turn, in their order
-  abbrev pub ServesKeys : List (List ℕ × ℕ) → ℕ → List ℕ → Slab (Client S) → Slab (Client S) → P → P → Type 0
+  abbrev pub ServesKeys : List (List ℕ × ℕ) → Moment → List ℕ → Slab (Client S) → Slab (Client S) → P → P → Type 0
   ServesKeys routes now keys old new before after =
       ServesAll w routes now (served old keys) (served new keys) before after
 

@@ -1,12 +1,12 @@
 -- One turn of a connection: what was read, what its session said to that, and what went out.
-use Rattle.std.specs.Prelude.{◌≡◌, ◌⊎◌, ◌+◌, ◌^◌, ℕ, min, Bool, true, false, ◌||◌, ◌&&◌, not, ◌-◌, ◌==◌, if◌then◌else◌, leb, List, length, [], vec_len, IfOk, IfErr, is_ok, is_some, Option, Some, None, Result, Ok, Err, String, Vec}
+use Rattle.std.specs.Prelude.{◌≡◌, ◌⊎◌, ◌+◌, ◌^◌, ℕ, min, Bool, true, false, ◌||◌, ◌&&◌, not, ◌-◌, ◌==◌, if◌then◌else◌, leb, List, length, [], ◌∷◌, vec_len, IfOk, IfErr, is_ok, is_some, Option, Some, None, Result, Ok, Err, String, Vec}
 use Rattle.std.specs.Global.{Global}
 use Rattle.channel_session.specs.Delivery.{DeliveredBy}
 use Rattle.channel_session.specs.declared.frames.Delivery.{Delivery}
 use Rattle.channel_session.specs.Ending.{EndedBy}
-use Rattle.channel_session.specs.Ran.{RanBy, texts_in}
+use Rattle.channel_session.specs.Ran.{texts_in}
 use Rattle.channel_session.specs.declared.fault.SessionFault.{SessionFault}
-use Rattle.channel_session.specs.declared.fault.SessionFault.TheVariants.{Failed}
+use Rattle.channel_session.specs.declared.fault.SessionFault.TheVariants.{Failed, OutOfMemory as OutOfMemoryFault}
 use Rattle.channel_rules.specs.Asks.{Ask, Answer}
 use Rattle.channel_rules.specs.Said.{Said, Worded, Noted}
 use Rattle.channel_pieces.specs.Piecewise.{Piecewise}
@@ -14,8 +14,12 @@ use Rattle.hook_registry.specs.declared.hooks.PresenceHooks.{Ghosts}
 use Rattle.phx_message.specs.Reading.{decoded}
 use Rattle.phx_message.specs.declared.message.Message.{Message}
 use Rattle.phx_message.specs.declared.message.TheConstants.Limits as the_limits
+use Rattle.client_settings.specs.Meaning.{IsPlain, Meant, reads, answers, meaning}
+use Rattle.client_settings.specs.Telling.{told_by}
+use Rattle.client_settings.specs.declared.settings.Settings.{Settings}
 use Rattle.serve_sockets.specs.Passing.{is_passing}
 use Rattle.serve_sockets.specs.Sending.{SentAll, Stops}
+use Rattle.tokens.specs.declared.signing.Signing.{Signing}
 use Rattle.tungstenite.specs.Failure.{IsIo, WriteFails}
 use Rattle.tungstenite.specs.Socket.{Socket, Flushed, Writes}
 use Rattle.tungstenite.specs.declared.error.Error.{Error}
@@ -26,6 +30,7 @@ use Rattle.websocket.specs.Content.{ping}
 use Rattle.websocket.specs.declared.error.Error.{Error as FrameError}
 use Rattle.serve_connections.specs.Causes.{cause_of, code_of, reason_of}
 use Rattle.serve_connections.specs.Hearing.{Hears, is_message}
+use Rattle.serve_connections.specs.Signed.{RunsText, leave}
 use Rattle.serve_connections.specs.Sparing.{Spares}
 use Rattle.serve_connections.specs.declared.cause.Cause.{Cause}
 use Rattle.serve_connections.specs.declared.cause.Cause.TheVariants.{Silent, Fault, Stream, Stopping}
@@ -35,6 +40,7 @@ use Rattle.serve_connections.specs.declared.connection.Progress.TheVariants as p
 use Rattle.serve_connections.specs.declared.connection.Stage.{Stage}
 use Rattle.serve_connections.specs.declared.connection.Stage.TheVariants.{Open, Ending, Over}
 use Rattle.serve_connections.specs.declared.connection.TheConstants.{MAX_DEALT, MAX_SILENCE, PING_SILENCE}
+use Rattle.serve_connections.specs.declared.moment.Moment.{Moment}
 use Rattle.serve_connections.specs.declared.sparing.TheConstants.{MAX_UNSENT}
 use Rattle.serve_connections.specs.declared.hearing.Heard.{Heard}
 use Rattle.serve_connections.specs.declared.hearing.Heard.TheVariants.{Text, Sign, Nothing, Ends}
@@ -69,6 +75,17 @@ abbrev pub dealt_texts : Result Delivery SessionFault → Result (List (List ℕ
 dealt_texts (Ok delivery) = Ok (texts_in delivery.texts)
 dealt_texts (Err fault) = Err fault
 
+-- this is said where the session says nothing
+abbrev pub said_for : Result (List (List ℕ)) SessionFault → List (List ℕ) → Result (List (List ℕ)) SessionFault
+said_for (Ok []) ok = Ok ok
+said_for (Ok (t ∷ ts)) ok = Ok (t ∷ ts)
+said_for (Err fault) ok = Err fault
+
+-- what a client of this number gets of them
+abbrev pub told_texts : Settings → ℕ → Result (List (List ℕ)) SessionFault → Result (List (List ℕ)) SessionFault
+told_texts given pid (Ok texts) = Ok (told_by given pid texts)
+told_texts given pid (Err fault) = Err fault
+
 module _ {S : Type 0} (contents : S → Option (List ℕ)) where
   -- The frames of the texts go out, in their order, and nothing else; or the connection ends since one could not be written, or since the session has a fault.
   abbrev pub GoOut : Socket S → Socket S → Result (List (List ℕ)) SessionFault → Result (Unit {0}) Cause → Type 0
@@ -77,6 +94,17 @@ module _ {S : Type 0} (contents : S → Option (List ℕ)) where
       (e : Error) × (cause ≡ cause_of e) × (is_passing e ≡ false) × Stops contents old new texts e
   GoOut old new (Err fault) (Ok u) = ⊥
   GoOut old new (Err fault) (Err cause) = (cause ≡ Fault fault) × (new ≡ old)
+
+  -- Memory is wanted for what a client gets, as it never is by default: nothing goes out.
+  pub record WantsToTell (given : Settings) (old new : Socket S) (result : Result (Unit {0}) Cause) : Type 0 where
+    pub other : IsPlain given → ⊥
+    pub cause : result ≡ Err (cause_of OutOfMemory)
+    pub kept : new ≡ old
+
+  -- what its client gets of these texts goes out
+  abbrev pub Tells : Settings → ℕ → Socket S → Socket S → Result (List (List ℕ)) SessionFault → Result (Unit {0}) Cause
+      → Type 0
+  Tells given pid old new texts result = GoOut old new (told_texts given pid texts) result ⊎ WantsToTell given old new result
 
   -- a frame that could not be written, but for the stream
   pub record LosesFrame (old new : Socket S) (step : Result Effect FrameError) : Type 0 where
@@ -172,14 +200,55 @@ dealt (Err cause) = Err cause
 module _ {S K P : Type 0} (w : Around S P) where
   -- ---- one message
 
-  -- The session answers a text, and its texts go out.
-  pub record AnswersText (routes : List (List ℕ × ℕ)) (text : List ℕ) (old new : Connection S K) (before after : P)
-      (result : Result (Unit {0}) Cause) : Type 0 where
+  -- The session answers this text.
+  pub record Runs (signing : Option Signing) (routes : List (List ℕ × ℕ)) (text : List ℕ) (ok : List (List ℕ))
+      (old new : Connection S K) (before after : P) (result : Result (Vec (String Global) Global) SessionFault) : Type 0 where
     pub answer : Result (Vec (String Global) Global) SessionFault
-    pub ran : RanBy w.worded (Piecewise (w.step old.session.pid)) routes old.session (decoded the_limits.CLIENT text)
-        (before, old.telling.untold) (after, new.telling.untold) new.session answer
-    pub sent : GoOut w.contents old.socket new.socket (ran_texts answer) result
-    pub kept : new ≡ record old { socket = new.socket; session = new.session; telling = new.telling }
+    pub ran : RunsText w.worded (w.step old.session.pid) routes signing old.grant old.session
+        (decoded the_limits.CLIENT text) (before, old.telling.untold) (after, new.telling.untold) new.session new.grant answer
+    pub said : ran_texts result ≡ said_for (ran_texts answer) ok
+
+  -- The session is asked nothing, and neither it nor what is granted is changed.
+  pub record AsksNothing (old new : Connection S K) (before after : P) : Type 0 where
+    pub session : new.session ≡ old.session
+    pub telling : new.telling ≡ old.telling
+    pub grant : new.grant ≡ old.grant
+    pub port : after ≡ before
+
+  -- These texts are said, and nothing is asked.
+  pub record Speaks (texts : List (List ℕ)) (old new : Connection S K) (before after : P)
+      (result : Result (Vec (String Global) Global) SessionFault) : Type 0 where
+    pub said : ran_texts result ≡ Ok texts
+    pub aside : AsksNothing old new before after
+
+  -- What comes of a text, by what it means.
+  abbrev pub ActsOn : Option Signing → List (List ℕ × ℕ) → Meant → Connection S K → Connection S K → P → P
+      → Result (Vec (String Global) Global) SessionFault → Type 0
+  ActsOn signing routes (reads text ok) old new before after result = Runs signing routes text ok old new before after result
+  ActsOn signing routes (answers texts) old new before after result = Speaks texts old new before after result
+
+  -- Memory is wanted for what a text means, as it never is by default: nothing is asked.
+  pub record WantsToRead (old new : Connection S K) (before after : P)
+      (result : Result (Vec (String Global) Global) SessionFault) : Type 0 where
+    pub other : IsPlain old.settings → ⊥
+    pub fault : result ≡ Err OutOfMemoryFault
+    pub aside : AsksNothing old new before after
+
+  -- what comes of a text that came
+  abbrev pub Acts : Option Signing → List (List ℕ × ℕ) → List ℕ → Connection S K → Connection S K → P → P
+      → Result (Vec (String Global) Global) SessionFault → Type 0
+  Acts signing routes text old new before after result =
+      ActsOn signing routes (meaning old.settings old.session text) old new before after result
+      ⊎ WantsToRead old new before after result
+
+  -- A text is answered, and its client gets what it is told.
+  pub record AnswersText (signing : Option Signing) (routes : List (List ℕ × ℕ)) (text : List ℕ) (old new : Connection S K)
+      (before after : P) (result : Result (Unit {0}) Cause) : Type 0 where
+    pub answer : Result (Vec (String Global) Global) SessionFault
+    pub acts : Acts signing routes text old new before after answer
+    pub sent : Tells w.contents old.settings old.session.pid old.socket new.socket (ran_texts answer) result
+    pub kept : new
+        ≡ record old { socket = new.socket; session = new.session; telling = new.telling; grant = new.grant }
 
   -- nothing was done, and this comes of it
   pub record Rests (old new : Connection S K) (before after : P)
@@ -196,12 +265,14 @@ module _ {S K P : Type 0} (w : Around S P) where
   text_at now c = record c { heard = now; pinged = false; messages = min (c.messages + 1) (2 ^ 64 - 1) }
 
   -- What is done by what was read.
-  abbrev pub Responds : List (List ℕ × ℕ) → ℕ → Heard → Connection S K → Connection S K → P → P
+  abbrev pub Responds : List (List ℕ × ℕ) → Moment → Heard → Connection S K → Connection S K → P → P
       → Result (Unit {0}) Cause → Type 0
   Responds routes now (Text words) old new before after result =
-      AnswersText routes words (text_at now old) new before after result
-  Responds routes now Sign old new before after result = Rests (heard_at now old) new before after result (Ok tt)
-  Responds routes now Nothing old new before after result = BearsSilence w.contents now old new result × (after ≡ before)
+      AnswersText now.signing routes words (text_at now.milliseconds old) new before after result
+  Responds routes now Sign old new before after result =
+      Rests (heard_at now.milliseconds old) new before after result (Ok tt)
+  Responds routes now Nothing old new before after result =
+      BearsSilence w.contents now.milliseconds old new result × (after ≡ before)
   Responds routes now (Ends cause) old new before after result = Rests old new before after result (Err cause)
 
   -- ---- one delivery
@@ -215,7 +286,7 @@ module _ {S K P : Type 0} (w : Around S P) where
     pub delivered : old.session.failed ≡ false
         → DeliveredBy w.worded w.noted (Spares (Piecewise (w.step old.session.pid))) MAX_DEALT old.session
         ((before, old.telling.untold), room_in old.socket) ((after, new.telling.untold), room) new.session delivery
-    pub sent : GoOut w.contents old.socket new.socket (dealt_texts delivery) (dealt result)
+    pub sent : Tells w.contents old.settings old.session.pid old.socket new.socket (dealt_texts delivery) (dealt result)
     pub more : IfOk result
         (λ told. told ≡ may_have_more delivery room (is_some old.telling.untold || is_some new.telling.untold))
     pub kept : new ≡ record old { socket = new.socket; session = new.session; telling = new.telling }
@@ -229,7 +300,7 @@ module _ {S K P : Type 0} (w : Around S P) where
   Continues came (Ok u) mid new between after (Err cause) = Deals mid new between after (Err cause)
 
   -- At most one message is read and answered, and what waits is delivered.
-  pub record Serves (routes : List (List ℕ × ℕ)) (now : ℕ) (old new : Connection S K) (before after : P)
+  pub record Serves (routes : List (List ℕ × ℕ)) (now : Moment) (old new : Connection S K) (before after : P)
       (result : Result Bool Cause) : Type 0 where
     pub heard : Heard
     pub socket : Socket S
@@ -240,6 +311,13 @@ module _ {S K P : Type 0} (w : Around S P) where
     pub responds : Responds routes now heard (record old { socket = socket }) mid before between first
     pub continues : Continues (is_message heard) first mid new between after result
 
+  -- It does where its client may go on; else nothing is read of it, and nothing asked.
+  abbrev pub ServesIf : Result (Unit {0}) Cause → List (List ℕ × ℕ) → Moment → Connection S K → Connection S K → P → P
+      → Result Bool Cause → Type 0
+  ServesIf (Ok u) routes now old new before after result = Serves routes now old new before after result
+  ServesIf (Err cause) routes now old new before after result =
+      (new ≡ old) × (after ≡ before) × (result ≡ Err cause)
+
   -- A connection that ends gets the close frame of its cause, and then its session's end is asked for.
   abbrev pub GoesOn : Connection S K → Connection S K → P → P → Result Bool Cause → Progress → Type 0
   GoesOn served new between after (Ok came) result = (new ≡ served) × (after ≡ between) × (result ≡ progress_of came)
@@ -247,12 +325,12 @@ module _ {S K P : Type 0} (w : Around S P) where
       (closed : Socket S) × ClosesFor w.contents cause served.socket closed
       × EndsSession w.step cause (record served { socket = closed }) new between after result
 
-  pub record TakesTurn (routes : List (List ℕ × ℕ)) (now : ℕ) (old new : Connection S K) (before after : P)
+  pub record TakesTurn (routes : List (List ℕ × ℕ)) (now : Moment) (old new : Connection S K) (before after : P)
       (result : Progress) : Type 0 where
     pub served : Connection S K
     pub between : P
     pub outcome : Result Bool Cause
-    pub serves : Serves routes now old served before between outcome
+    pub serves : ServesIf (leave now.signing old.grant) routes now old served before between outcome
     pub goes_on : GoesOn served new between after outcome result
 
   -- ---- a turn that reads nothing
@@ -272,7 +350,7 @@ module _ {S K P : Type 0} (w : Around S P) where
   Delivers (Over cause) old new before after result = (new ≡ old) × (after ≡ before) × (result ≡ progress.Over)
 
   -- What a turn does, by how far the connection has come.
-  abbrev pub Turns : Stage → List (List ℕ × ℕ) → ℕ → Connection S K → Connection S K → P → P → Progress → Type 0
+  abbrev pub Turns : Stage → List (List ℕ × ℕ) → Moment → Connection S K → Connection S K → P → P → Progress → Type 0
   Turns Open routes now old new before after result = TakesTurn routes now old new before after result
   Turns (Ending cause) routes now old new before after result = EndsSession w.step cause old new before after result
   Turns (Over cause) routes now old new before after result = (new ≡ old) × (after ≡ before) × (result ≡ progress.Over)

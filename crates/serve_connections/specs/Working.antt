@@ -5,12 +5,17 @@ use Rattle.std.specs.List.{AllByRecursion}
 use mathlib.Core.HLevel.{×_prop}
 use denote.Struct.Props as logic
 use Rattle.tungstenite.specs.Socket.{Socket}
+use Rattle.client_settings.specs.declared.settings.Settings.{Settings}
+use Rattle.serve_connections.specs.SigningIn.{SignsIn}
 use Rattle.serve_connections.specs.Turning.{Around, Turns, Delivers as DeliversAt, Flushes, StopsServing}
+use Rattle.serve_connections.specs.declared.cause.Cause.TheVariants.{Unsigned}
+use Rattle.serve_connections.specs.declared.connection.Connection.{Connection}
 use Rattle.serve_connections.specs.declared.connection.Progress.{Progress}
 use Rattle.serve_connections.specs.declared.connection.Progress.TheVariants as progress
 use Rattle.serve_connections.specs.declared.connection.Stage.{Stage}
 use Rattle.serve_connections.specs.declared.connection.Stage.TheVariants.{Open, Ending, Over}
 use Rattle.serve_connections.specs.declared.client.Client.{Client}
+use Rattle.serve_connections.specs.declared.moment.Moment.{Moment}
 use Rattle.serve_connections.specs.declared.worker.NoMore.{NoMore}
 use Rattle.serve_connections.specs.declared.worker.NoMore.TheVariants.{Full, NoneWaits}
 use Rattle.serve_connections.specs.declared.worker.TheConstants.{MAX_CONNECTIONS}
@@ -71,7 +76,7 @@ rises_prop floor top (c ∷ cs) = ×_prop (Prim.hlevel logic.props) (rises_prop 
 
 -- ---- a turn
 
-module _ {S P : Type 0} (w : Around S P) (routes : List (List ℕ × ℕ)) (now : ℕ) where
+module _ {S P : Type 0} (w : Around S P) (routes : List (List ℕ × ℕ)) (now : Moment) where
   -- A connection takes its turn.
   pub record TakesTurn (old new : Client S) (before after : P) : Type 0 where
     pub progress : Progress
@@ -169,30 +174,32 @@ module _ {S : Type 0} (contents : S → Option (List ℕ)) where
 
 -- ---- new connections
 
--- a connection that was just taken: its session has joined nothing, and its number is its pid
-abbrev pub newcomer : {S : Type 0} → ℕ → ℕ → Socket S → ℕ → Client S
-newcomer number token socket now =
-    record {
-      number = number;
-      token = token;
-      ready = true;
-      unsent = false;
-      connection = record {
-        socket = socket;
-        session = record { pid = number; failed = false; joined = []; cut_short = None };
-        telling = record { untold = None };
-        heard = now;
-        pinged = false;
-        messages = 0;
-        stage = Open;
-      };
-    }
+-- a connection over a socket whose handshake is done: its session has joined nothing
+abbrev pub fresh : {S K : Type 0} → Settings → ℕ → Socket S → ℕ → Connection S K
+fresh settings number socket now = record {
+  socket = socket;
+  session = record { pid = number; failed = false; joined = []; cut_short = None };
+  telling = record { untold = None };
+  settings = settings;
+  heard = now;
+  pinged = false;
+  messages = 0;
+  stage = Open;
+  grant = Err Unsigned;
+}
 
-pub record IsNew {S : Type 0} (now : ℕ) (c : Client S) : Type 0 where
+-- a connection that was just taken: its number is its pid
+abbrev pub newcomer : {S : Type 0} → Settings → ℕ → ℕ → Socket S → ℕ → Client S
+newcomer settings number token socket now =
+    record { number = number; token = token; ready = true; unsent = false; connection = fresh settings number socket now }
+
+-- It is a connection that was just taken, and its client is signed in by what its stream carries, where clients sign in.
+pub record IsNew {S : Type 0} (settings : Settings) (carried : S → Option (List ℕ)) (now : Moment) (c : Client S) : Type 0 where
   pub number : ℕ
   pub token : ℕ
   pub socket : Socket S
-  pub new : c ≡ newcomer number token socket now
+  pub signs_in : SignsIn carried now.signing (fresh settings number socket now.milliseconds) c.connection
+  pub new : c ≡ record (newcomer settings number token socket now.milliseconds) { connection = c.connection }
 
 -- Why no more are taken: the worker serves as many as it may, or none waited when it looked, of which a look alone makes the token.
 abbrev pub EndsAt : {S : Type 0} → List (Client S) → NoMore → Type 0
@@ -200,15 +207,16 @@ EndsAt cs Full = length cs ≡ MAX_CONNECTIONS
 EndsAt cs (NoneWaits looked) = Unit {0}
 
 -- One was taken and stands behind the others, or none was.
-abbrev pub TakesOne : {S : Type 0} → ℕ → List (Client S) → List (Client S) → Result (Option NoMore) AllocError → Type 0
-TakesOne {S} now old new (Ok None) = (c : Client S) × IsNew now c × (new ≡ old ++ c ∷ [])
-TakesOne now old new (Ok (Some why)) = (new ≡ old) × EndsAt new why
-TakesOne now old new (Err e) = new ≡ old
+abbrev pub TakesOne : {S : Type 0} → Settings → (S → Option (List ℕ)) → Moment → List (Client S) → List (Client S)
+    → Result (Option NoMore) AllocError → Type 0
+TakesOne {S} settings carried now old new (Ok None) = (c : Client S) × IsNew settings carried now c × (new ≡ old ++ c ∷ [])
+TakesOne settings carried now old new (Ok (Some why)) = (new ≡ old) × EndsAt new why
+TakesOne settings carried now old new (Err e) = new ≡ old
 
 -- Those that were taken stand behind the others, each as new.
-pub record TakesIn {S : Type 0} (now : ℕ) (old new : List (Client S)) : Type 0 where
+pub record TakesIn {S : Type 0} (settings : Settings) (carried : S → Option (List ℕ)) (now : Moment) (old new : List (Client S)) : Type 0 where
   pub taken : List (Client S)
-  pub new_ones : AllByRecursion (IsNew now) taken
+  pub new_ones : AllByRecursion (IsNew settings carried now) taken
   pub behind : new ≡ old ++ taken
 
 -- As many connections stand more at the worker as have left the queue at its end: none that was taken is lost.

@@ -28,6 +28,11 @@ pub enum Cause {
     Stream,
     #[error("the server stops")]
     Stopping,
+    #[error("the token has expired")]
+    Expired,
+    /// Clients sign in, and this one isn't signed in.
+    #[error("the token is not taken")]
+    Unsigned,
 }
 
 // The close code of a text that is no message.
@@ -70,6 +75,7 @@ pub fn close_code(cause: Cause) -> Option<CloseCode>
         Cause::Fault(fault) => Some(fault_close(fault)),
         Cause::Full => Some(CloseCode::Error),
         Cause::Stopping => Some(CloseCode::Away),
+        Cause::Expired | Cause::Unsigned => Some(CloseCode::Iana(3_000)),
     }
 }
 
@@ -79,6 +85,8 @@ pub(crate) fn close_reason(cause: Cause) -> &'static str
 {
     match cause {
         Cause::Silent => "silent for 60 s",
+        Cause::Expired => "the token has expired",
+        Cause::Unsigned => "the token is not taken",
         Cause::Closed
         | Cause::Stream
         | Cause::Binary

@@ -5,6 +5,7 @@ ghost use Rattle.serve_connections.specs.Resting.{rests as rests_in};
 ghost use Rattle.serve_connections.specs.Working.{Delivers, SendsIf, Serves, StopsOne, has_ended, is_ending, is_over, readied, stays_ready as stays_ready_in, unreadied};
 
 use crate::connection::{Connection, Progress, Stage};
+use crate::moment::Moment;
 use channel_rules::Port;
 use hook_registry::{PresenceHooks, Routes};
 use std::alloc::Global;
@@ -67,10 +68,10 @@ impl<S: Read + Write + Drop> Client<S> {
         port: &mut P,
         routes: &Routes,
         hooks: &H,
-        now: u64,
+        now: Moment<'_>,
     )
         ensures { Serves (around S.remaining S.contents P.step H.PresenceHooks hooks.now)
-            routes.now now self.old self.new port.old port.new }
+            routes.now now.entry self.old self.new port.old port.new }
     {
         if self.ready {
             let progress = self.connection.turn(alloc, port, routes, hooks, now);

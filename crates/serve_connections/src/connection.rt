@@ -1,28 +1,33 @@
 //! A connection, and its turn.
-ghost use Rattle.std.specs.Prelude.{is_ok, is_some, Some, ◌||◌, ◌≡◌, ◌+◌, ◌≤◌, ◌^◌, [], leb, false, true, map, string_bytes, None, IfOk};
+ghost use Rattle.std.specs.Prelude.{is_ok, is_some, Some, ◌||◌, ◌≡◌, ◌+◌, ◌≤◌, ◌^◌, [], leb, false, true, map, string_bytes, None, IfOk, Ok, Err};
 ghost use Rattle.phx_message.specs.Reading.{decoded};
+ghost use Rattle.number_texts.specs.Marks.{become};
 ghost use Rattle.tungstenite.specs.Socket.{Flushed};
 ghost use Rattle.serve_connections.specs.Hearing.{is_message};
-ghost use Rattle.serve_connections.specs.Turning.{around, AnswersText, AsksIf, BearsSilence, ClosesFor, Continues, Deals, Delivers, behind_flush, broken_off, EndsSession, GoOut, Responds, Serves, Flushes, Pings, StopsServing, TakesDelivery, TakesTurn, Turns, dealt, dealt_texts, is_owed_ping, may_have_more, patience, progress_of as progress_in};
+ghost use Rattle.serve_connections.specs.Turning.{around, Acts, AnswersText, AsksIf, BearsSilence, ClosesFor, Continues, Deals, Delivers, behind_flush, broken_off, EndsSession, Responds, Serves, ServesIf, Flushes, Pings, StopsServing, TakesDelivery, TakesTurn, Tells, Turns, dealt, dealt_texts, is_owed_ping, may_have_more, patience, progress_of as progress_in, ran_texts, said_for as said_in_place};
 ghost use Rattle.channel_session.specs.Delivery.{DeliveredBy};
 ghost use Rattle.channel_session.specs.Ran.{RanBy};
 ghost use Rattle.channel_rules.specs.Said.{Worded, Noted};
 ghost use Rattle.channel_pieces.specs.Piecewise.{Piecewise};
+ghost use Rattle.serve_connections.specs.Signed.{RunsText, leave};
 ghost use Rattle.serve_connections.specs.Sparing.{Spares};
 ghost use Rattle.serve_sockets.specs.declared.web_socket.TheConstants.{MAX_WAITING};
 
 use crate::cause::{Cause, cause_of, close_code, close_reason};
 use crate::hearing::{Heard, hear};
+use crate::moment::Moment;
 use crate::pieces::{deliver_over, run_over};
 use crate::sparing::MAX_UNSENT;
 use channel_pieces::{PiecewisePort, Telling};
 use channel_rules::Port;
 use channel_session::{Channels, Delivery, Session, SessionFault, end};
+use client_settings::{Meaning, Reading, Settings};
 use hook_registry::{PresenceHooks, Routes};
 use phx_message::Limits;
 use serve_sockets::{MAX_WAITING, WebSocket, is_passing, queue_all};
 use std::alloc::Global;
 use std::io::{Read, Write};
+use tokens::{Grant, Signing};
 use tungstenite::{Bytes, CloseFrame, Error, MaskKeys, Message, Utf8Bytes, WebSocketConfig};
 
 /// How long a connection may be without a message, in milliseconds.
@@ -71,6 +76,8 @@ pub struct Connection<S, K> {
     pub session: Session,
     /// What its client is yet to be told of a long state.
     pub telling: Telling,
+    /// What its client may do beyond the usual.
+    pub settings: Settings,
     /// When the last message came, in milliseconds.
     pub heard: u64,
     /// Whether its client was sent a ping since then.
@@ -78,6 +85,8 @@ pub struct Connection<S, K> {
     /// How many texts came.
     pub messages: u64,
     pub stage: Stage,
+    /// What is granted to its client where clients sign in, or for which cause it ends there.
+    pub grant: Result<Grant, Cause>,
 }
 
 impl<S: Drop, K: Drop> Drop for Connection<S, K> {
@@ -86,14 +95,18 @@ impl<S: Drop, K: Drop> Drop for Connection<S, K> {
             socket,
             session,
             telling,
+            settings,
             heard: _,
             pinged: _,
             messages: _,
             stage: _,
+            grant,
         } = self;
         drop(socket);
         drop(session);
         drop(telling);
+        drop(settings);
+        drop(grant);
     }
 }
 
@@ -119,43 +132,80 @@ fn progress_of(came: bool) -> Progress
     if came { Progress::Busy } else { Progress::Idle }
 }
 
+// The text that a session reads where this one came.
+fn text_read<'a>(came: &'a str, other: &'a Option<String>) -> &'a str
+    ensures { result.now ≡ become came.now other.now }
+{
+    match other {
+        Some(other) => other.as_str(),
+        None => came,
+    }
+}
+
+// What is said: these texts where the session says nothing.
+fn said_for(
+    answer: Result<Vec<String>, SessionFault>,
+    ok: Vec<String>,
+) -> Result<Vec<String>, SessionFault>
+    ensures { ran_texts result ≡ said_in_place (ran_texts answer) (map string_bytes ok.items) }
+{
+    match answer {
+        Ok(texts) if texts.is_empty() => Ok(ok),
+        Ok(texts) => Ok(texts),
+        Err(fault) => Err(fault),
+    }
+}
+
 impl<S: Read + Write + Drop, K: MaskKeys + Drop> Connection<S, K> {
     /// A connection over a socket whose handshake is done, at this time.
-    pub fn new(alloc: Global, socket: WebSocket<S, K>, pid: u64, now: u64) -> Connection<S, K>
+    pub fn new(
+        alloc: Global,
+        socket: WebSocket<S, K>,
+        pid: u64,
+        now: u64,
+        settings: Settings,
+    ) -> Connection<S, K>
         requires { pid ≤ 2 ^ 62 }
         ensures { result ≡ record {
           socket = socket;
           session = record { pid = pid; failed = false; joined = []; cut_short = None };
           telling = record { untold = None };
+          settings = settings;
           heard = now;
           pinged = false;
           messages = 0;
           stage = Stage.Open;
+          grant = Err Cause.Unsigned;
         } }
     {
         Connection {
             socket,
             session: Session::new(alloc, pid),
             telling: Telling::new(),
+            settings,
             heard: now,
             pinged: false,
             messages: 0,
             stage: Stage::Open,
+            grant: Err(Cause::Unsigned),
         }
     }
 
-    // Puts the texts that the session gave in what waits to be sent.
-    fn send(&mut self, texts: Vec<String>) -> Result<(), Cause>
-        ensures sent { GoOut S.contents self.old.socket self.new.socket (Ok (map string_bytes texts.items)) result }
+    // Puts what a client of this number gets of its session's texts in what waits to be sent.
+    fn send(&mut self, alloc: Global, pid: u64, texts: Vec<String>) -> Result<(), Cause>
+        ensures sent { Tells S.contents self.old.settings pid self.old.socket self.new.socket (Ok (map string_bytes texts.items)) result }
         ensures kept { self.new ≡ record self.old { socket = self.new.socket } }
     {
+        let Ok(texts) = self.settings.tell(alloc, pid, texts) else {
+            return Err(cause_of(&Error::OutOfMemory));
+        };
         match queue_all(&mut self.socket, texts) {
             Ok(()) => Ok(()),
             Err(error) => Err(cause_of(&error)),
         }
     }
 
-    // What the session answers to a text.
+    // What the session answers to a text, where clients don't sign in.
     fn run<P: Port, H: PresenceHooks>(
         &mut self,
         alloc: Global,
@@ -172,21 +222,69 @@ impl<S: Read + Write + Drop, K: MaskKeys + Drop> Connection<S, K> {
         run_over(alloc, &mut self.session, &mut pieces, channels, text)
     }
 
+    // What is answered to a text that the session reads.
+    fn run_text<P: Port, H: PresenceHooks>(
+        &mut self,
+        alloc: Global,
+        port: &mut P,
+        channels: Channels<'_, H>,
+        signing: Option<Signing<'_>>,
+        text: &str,
+    ) -> Result<Vec<String>, SessionFault>
+        ensures ran { RunsText (Worded (H.PresenceHooks.fetched channels.entry.hooks.now) (H.PresenceHooks.plain channels.entry.hooks.now))
+            (P.step self.old.session.pid) channels.entry.routes.now signing.entry self.old.grant self.old.session
+            (decoded Limits.CLIENT text.now) (port.old, self.old.telling.untold) (port.new, self.new.telling.untold)
+            self.new.session self.new.grant result }
+        ensures kept { self.new
+            ≡ record self.old { session = self.new.session; telling = self.new.telling; grant = self.new.grant } }
+    {
+        match signing {
+            None => self.run(alloc, port, channels, text),
+            Some(signing) => self.run_signed(alloc, port, channels, signing, text),
+        }
+    }
+
+    // What is said to a text.
+    fn run_meant<P: Port, H: PresenceHooks>(
+        &mut self,
+        alloc: Global,
+        port: &mut P,
+        channels: Channels<'_, H>,
+        signing: Option<Signing<'_>>,
+        text: &str,
+    ) -> Result<Vec<String>, SessionFault>
+        ensures ran { Acts (around S.remaining S.contents P.step H.PresenceHooks channels.entry.hooks.now) signing.entry
+            channels.entry.routes.now text.now self.old self.new port.old port.new result }
+        ensures kept { self.new
+            ≡ record self.old { session = self.new.session; telling = self.new.telling; grant = self.new.grant } }
+    {
+        match self.settings.meaning(alloc, &self.session, text) {
+            Ok(Meaning::Reads(reading)) => {
+                let Reading { text: other, ok } = reading;
+                let read = text_read(text, &other);
+                let answer = self.run_text(alloc, port, channels, signing, read);
+                said_for(answer, ok)
+            }
+            Ok(Meaning::Answers(texts)) => Ok(texts),
+            Err(_) => Err(SessionFault::OutOfMemory),
+        }
+    }
+
     // Answers a text.
     fn answer<P: Port, H: PresenceHooks>(
         &mut self,
         alloc: Global,
         port: &mut P,
-        routes: &Routes,
-        hooks: &H,
+        channels: Channels<'_, H>,
+        signing: Option<Signing<'_>>,
         text: &str,
     ) -> Result<(), Cause>
-        ensures { AnswersText (around S.remaining S.contents P.step H.PresenceHooks hooks.now)
-            routes.now text.now self.old self.new port.old port.new result }
+        ensures { AnswersText (around S.remaining S.contents P.step H.PresenceHooks channels.entry.hooks.now)
+            signing.entry channels.entry.routes.now text.now self.old self.new port.old port.new result }
     {
-        let channels = Channels { routes, hooks };
-        match self.run(alloc, port, channels, text) {
-            Ok(texts) => self.send(texts),
+        let pid = self.session.pid();
+        match self.run_meant(alloc, port, channels, signing, text) {
+            Ok(texts) => self.send(alloc, pid, texts),
             Err(fault) => Err(Cause::Fault(fault)),
         }
     }
@@ -247,25 +345,26 @@ impl<S: Read + Write + Drop, K: MaskKeys + Drop> Connection<S, K> {
         port: &mut P,
         routes: &Routes,
         hooks: &H,
-        now: u64,
+        now: Moment<'_>,
         heard: &Heard,
     ) -> Result<(), Cause>
         ensures { Responds (around S.remaining S.contents P.step H.PresenceHooks hooks.now)
-            routes.now now heard.now self.old self.new port.old port.new result }
+            routes.now now.entry heard.now self.old self.new port.old port.new result }
     {
         match heard {
             Heard::Text(words) => {
-                self.heard = now;
+                self.heard = now.milliseconds;
                 self.pinged = false;
                 self.messages = self.messages.saturating_add(1);
-                self.answer(alloc, port, routes, hooks, words.as_str())
+                let channels = Channels { routes, hooks };
+                self.answer(alloc, port, channels, now.signing, words.as_str())
             }
             Heard::Sign => {
-                self.heard = now;
+                self.heard = now.milliseconds;
                 self.pinged = false;
                 Ok(())
             }
-            Heard::Nothing => self.bear_silence(now),
+            Heard::Nothing => self.bear_silence(now.milliseconds),
             Heard::Ends(cause) => Err(*cause),
         }
     }
@@ -274,11 +373,13 @@ impl<S: Read + Write + Drop, K: MaskKeys + Drop> Connection<S, K> {
     // may wait, as where a state is being told, or was before, so that nothing else was taken.
     fn send_dealt(
         &mut self,
+        alloc: Global,
+        pid: u64,
         delivery: Result<Delivery, SessionFault>,
         left: usize,
         telling: bool,
     ) -> Result<bool, Cause>
-        ensures sent { GoOut S.contents self.old.socket self.new.socket (dealt_texts delivery) (dealt result) }
+        ensures sent { Tells S.contents self.old.settings pid self.old.socket self.new.socket (dealt_texts delivery) (dealt result) }
         ensures more { IfOk result (λ told. told ≡ may_have_more delivery left (telling || is_some self.old.telling.untold)) }
         ensures kept { self.new ≡ record self.old { socket = self.new.socket } }
     {
@@ -287,7 +388,7 @@ impl<S: Read + Write + Drop, K: MaskKeys + Drop> Connection<S, K> {
                 drop(notices);
                 let untold = telling || self.telling.is_under_way();
                 let more = texts.len() >= MAX_DEALT as usize || left == 0 || untold;
-                match self.send(texts) {
+                match self.send(alloc, pid, texts) {
                     Ok(()) => Ok(more),
                     Err(cause) => Err(cause),
                 }
@@ -327,10 +428,11 @@ impl<S: Read + Write + Drop, K: MaskKeys + Drop> Connection<S, K> {
         ensures { Deals (around S.remaining S.contents P.step H.PresenceHooks hooks.now)
             self.old self.new port.old port.new result }
     {
+        let pid = self.session.pid();
         let room = MAX_UNSENT.saturating_sub(self.socket.waiting());
         let telling = self.telling.is_under_way();
         let (delivery, left) = self.take(alloc, port, hooks, room);
-        self.send_dealt(delivery, left, telling)
+        self.send_dealt(alloc, pid, delivery, left, telling)
     }
 
     // Goes on behind a message with a delivery.
@@ -361,14 +463,32 @@ impl<S: Read + Write + Drop, K: MaskKeys + Drop> Connection<S, K> {
         port: &mut P,
         routes: &Routes,
         hooks: &H,
-        now: u64,
+        now: Moment<'_>,
     ) -> Result<bool, Cause>
         ensures { Serves (around S.remaining S.contents P.step H.PresenceHooks hooks.now)
-            routes.now now self.old self.new port.old port.new result }
+            routes.now now.entry self.old self.new port.old port.new result }
     {
         let heard = hear(&mut self.socket);
         let first = self.respond(alloc, port, routes, hooks, now, &heard);
         self.go_on(alloc, port, hooks, heard.is_message(), first)
+    }
+
+    // Does so where its client may go on.
+    fn serve_if<P: Port, H: PresenceHooks>(
+        &mut self,
+        alloc: Global,
+        port: &mut P,
+        routes: &Routes,
+        hooks: &H,
+        now: Moment<'_>,
+    ) -> Result<bool, Cause>
+        ensures { ServesIf (around S.remaining S.contents P.step H.PresenceHooks hooks.now)
+            (leave now.entry.signing self.old.grant) routes.now now.entry self.old self.new port.old port.new result }
+    {
+        match self.leave(now.signing) {
+            Ok(()) => self.serve(alloc, port, routes, hooks, now),
+            Err(cause) => Err(cause),
+        }
     }
 
     // Sends the close frame of a cause, if it has one.
@@ -409,12 +529,12 @@ impl<S: Read + Write + Drop, K: MaskKeys + Drop> Connection<S, K> {
         port: &mut P,
         routes: &Routes,
         hooks: &H,
-        now: u64,
+        now: Moment<'_>,
     ) -> Progress
         ensures { TakesTurn (around S.remaining S.contents P.step H.PresenceHooks hooks.now)
-            routes.now now self.old self.new port.old port.new result }
+            routes.now now.entry self.old self.new port.old port.new result }
     {
-        match self.serve(alloc, port, routes, hooks, now) {
+        match self.serve_if(alloc, port, routes, hooks, now) {
             Ok(more) => progress_of(more),
             Err(cause) => {
                 self.close(cause);
@@ -429,16 +549,19 @@ impl<S: Read + Write + Drop, K: MaskKeys + Drop> Connection<S, K> {
     ///
     /// One that was silent for `PING_SILENCE` is sent a ping, once. A connection that ends is told its close code and reads
     /// no more. Its session's end is asked for in that turn and in each later one, until it is accepted.
+    ///
+    /// Where clients sign in, a connection ends from the second on at which its client's token does, before anything is
+    /// read, and one whose client isn't signed in ends at once.
     pub fn turn<P: Port, H: PresenceHooks>(
         &mut self,
         alloc: Global,
         port: &mut P,
         routes: &Routes,
         hooks: &H,
-        now: u64,
+        now: Moment<'_>,
     ) -> Progress
         ensures { Turns (around S.remaining S.contents P.step H.PresenceHooks hooks.now)
-            self.old.stage routes.now now self.old self.new port.old port.new result }
+            self.old.stage routes.now now.entry self.old self.new port.old port.new result }
     {
         match self.stage {
             Stage::Open => self.turn_open(alloc, port, routes, hooks, now),

@@ -27,7 +27,14 @@ const MAX_READS: usize = 16;
 fn was_told(client: &Client<ClientSocket>) -> bool {
     matches!(
         client.connection.stage,
-        Stage::Over(Cause::Silent | Cause::Binary | Cause::Fault(_) | Cause::Full)
+        Stage::Over(
+            Cause::Silent
+                | Cause::Binary
+                | Cause::Fault(_)
+                | Cause::Full
+                | Cause::Expired
+                | Cause::Unsigned
+        )
     )
 }
 

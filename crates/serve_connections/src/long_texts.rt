@@ -7,6 +7,7 @@ ghost use Rattle.serve_connections.specs.Marks.{OnlyMarks};
 ghost use Rattle.serve_connections.specs.Serving.{served_by};
 
 use crate::client::Client;
+use crate::moment::Moment;
 use crate::worker::Worker;
 use serve_sockets::{ClientSocket, TURN_BYTES};
 use std::alloc::Global;
@@ -24,8 +25,10 @@ pub struct LongTexts {
 }
 
 // Whether the next turn of a client would go on with a long text.
-fn has_long_text(client: &Client<ClientSocket>) -> bool {
-    client.ready && client.connection.socket.gathered() >= TURN_BYTES
+fn has_long_text(client: &Client<ClientSocket>, now: Moment<'_>) -> bool {
+    client.ready
+        && client.connection.socket.gathered() >= TURN_BYTES
+        && client.connection.leave(now.signing).is_ok()
 }
 
 impl LongTexts {
@@ -38,13 +41,13 @@ impl LongTexts {
     }
 
     // The number of the first client that goes on: behind the last that did, or else before it. 0 where none would.
-    fn next(&self, worker: &Worker<ClientSocket>) -> u64 {
+    fn next(&self, worker: &Worker<ClientSocket>, now: Moment<'_>) -> u64 {
         let mut first = 0;
         for place in 0..worker.len() {
             let Some(client) = worker.due_at(place) else {
                 continue;
             };
-            if !has_long_text(client) {
+            if !has_long_text(client, now) {
                 continue;
             }
             if client.number > self.last {
@@ -59,19 +62,19 @@ impl LongTexts {
 
     /// Of the clients whose next turn would go on with a long text the first do that come behind the last that did, in order
     /// of their numbers, or of all where none is behind it. Each other one has no turn until `resume`, as far as there is
-    /// memory to note it.
+    /// memory to note it. One that may not go on has its turn, which ends it.
     #[tactic(auto, using(crate::proofs::Marks::held_next))]
-    pub fn hold(&mut self, worker: &mut Worker<ClientSocket>)
+    pub fn hold(&mut self, worker: &mut Worker<ClientSocket>, now: Moment<'_>)
         ensures { OnlyMarks (served_by worker.old) (served_by worker.new) }
     {
-        let next = self.next(worker);
+        let next = self.next(worker, now);
         self.last = 0;
         let mut going = 0;
         for place in 0..worker.len() {
             let Some(client) = worker.due_at(place) else {
                 continue;
             };
-            if !has_long_text(client) {
+            if !has_long_text(client, now) {
                 continue;
             }
             let (number, token) = (client.number, client.token);

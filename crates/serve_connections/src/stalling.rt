@@ -6,6 +6,7 @@ ghost use Rattle.serve_connections.specs.declared.stalling.TheConstants.{MAX_STA
 
 use crate::client::Client;
 use crate::connection::{MAX_SILENCE, Stage};
+use crate::moment::Moment;
 use crate::worker::Worker;
 use serve_sockets::ClientSocket;
 use std::net::Shutdown;
@@ -45,14 +46,14 @@ fn is_silent(client: &Client<ClientSocket>, now: u64) -> bool {
         && stream_of(client).stream().peek(&mut byte).is_err()
 }
 
-// The token of an open client for which something waits that finds no room. One that hasn't kept pace for too long, or was
-// silent for so long, is cut off, so that its next flush fails.
-fn stalled(client: &Client<ClientSocket>, now: u64) -> Option<usize> {
-    let since = behind_since(client, now)?;
-    if client.connection.stage != Stage::Open {
+// The token of an open client for which something waits that finds no room, and that may go on. One that hasn't kept pace
+// for too long, or was silent for so long, is cut off, so that its next flush fails.
+fn stalled(client: &Client<ClientSocket>, now: Moment<'_>) -> Option<usize> {
+    let since = behind_since(client, now.milliseconds)?;
+    if client.connection.stage != Stage::Open || client.connection.leave(now.signing).is_err() {
         return None;
     }
-    if is_too_slow(since, now) || is_silent(client, now) {
+    if is_too_slow(since, now.milliseconds) || is_silent(client, now.milliseconds) {
         stream_of(client).give_up();
         let _lost = stream_of(client).stream().shutdown(Shutdown::Both);
     }
@@ -61,9 +62,9 @@ fn stalled(client: &Client<ClientSocket>, now: u64) -> Option<usize> {
 
 /// A client for which something waits that finds no room gets no turn: nothing is read of it and nothing taken for it, so
 /// that what waits for it falls behind. One that doesn't keep pace is cut off after a minute, and so is one that is silent.
-/// Whether there is one.
+/// One that may not go on has its turn, which ends it. Whether there is one that has none.
 #[tactic(auto, using(crate::proofs::Marks::held_next))]
-pub fn hold_stalled(worker: &mut Worker<ClientSocket>, now: u64) -> bool
+pub fn hold_stalled(worker: &mut Worker<ClientSocket>, now: Moment<'_>) -> bool
     ensures { OnlyMarks (served_by worker.old) (served_by worker.new) }
 {
     let mut some = false;

@@ -10,11 +10,13 @@ ghost use Rattle.serve_connections.specs.Working.{DeliversAll, EndsAt, NoneLost,
 
 use crate::client::Client;
 use crate::connection::Connection;
+use crate::moment::Moment;
 use crate::resting::Resting;
 use channel_rules::Port;
+use client_settings::Settings;
 use hook_registry::{PresenceHooks, Routes};
 use node_threads::{NoneWaits, Numbered, Taker};
-use serve_sockets::WebSocket;
+use serve_sockets::{CarriesToken, WebSocket};
 use slab::Slab;
 use std::alloc::{AllocError, Global};
 use std::io::{Read, Write};
@@ -75,7 +77,7 @@ struct Round<'a, H> {
     alloc: Global,
     routes: &'a Routes,
     hooks: &'a H,
-    now: u64,
+    now: Moment<'a>,
 }
 
 // The connection at each key takes its turn, one behind the other over the same port.
@@ -369,10 +371,10 @@ impl<S: Read + Write + Drop> Worker<S> {
         port: &mut P,
         routes: &Routes,
         hooks: &H,
-        now: u64,
+        now: Moment<'_>,
     )
         ensures { ServesAll (around S.remaining S.contents P.step H.PresenceHooks hooks.now)
-            routes.now now (served_by self.old) (served_by self.new) port.old port.new }
+            routes.now now.entry (served_by self.old) (served_by self.new) port.old port.new }
     {
         let keys = Keys {
             order: self.order.as_slice(),
@@ -408,21 +410,27 @@ impl<S: Read + Write + Drop> Worker<S> {
         drop_ended(&mut self.clients, &mut self.order, &self.resting);
         settle(&self.clients, self.order.as_slice(), &mut self.resting);
     }
+}
+
+impl<S: Read + Write + Drop + CarriesToken> Worker<S> {
+    ghost use Rattle.serve_connections.specs.Serving.{served_by};
 
     // Takes a connection from the queue, or tells why it takes none.
     fn take_one<R: Wait>(
         &mut self,
         rt: &R,
         alloc: Global,
-        now: u64,
+        now: Moment<'_>,
+        settings: &Settings,
     ) -> Result<Option<NoMore>, AllocError>
-        ensures takes { TakesOne now (served_by self.old) (served_by self.new) result }
+        ensures takes { TakesOne settings.now S.carried now.entry (served_by self.old) (served_by self.new) result }
         ensures none_lost { NoneLost (view self.old.taker.pass).pops (view self.new.taker.pass).pops
             (served_by self.old) (served_by self.new) }
     {
         if self.order.len() >= MAX_CONNECTIONS {
             return Ok(Some(NoMore::Full));
         }
+        let settings = settings.share()?;
         self.order.reserve(1)?;
         self.clients.reserve(1)?;
         let Numbered { number, stream } = match self.taker.take(rt) {
@@ -437,26 +445,28 @@ impl<S: Read + Write + Drop> Worker<S> {
             token,
             ready: true,
             unsent: false,
-            connection: Connection::new(alloc, stream, number, now),
+            connection: Connection::taken(alloc, stream, number, now, settings),
         });
         self.order.push_reserved(key);
         Ok(None)
     }
 
-    /// Takes connections from the queue, at this time, until none waits or there is no room for more.
+    /// Takes connections from the queue, at this time, until none waits or there is no room for more. Where clients sign in,
+    /// each does by the token that its stream carries.
     pub fn take_in<R: Wait>(
         &mut self,
         rt: &R,
         alloc: Global,
-        now: u64,
+        now: Moment<'_>,
+        settings: &Settings,
     ) -> Result<NoMore, AllocError>
-        ensures takes { TakesIn now (served_by self.old) (served_by self.new) }
+        ensures takes { TakesIn settings.now S.carried now.entry (served_by self.old) (served_by self.new) }
         ensures none_lost { NoneLost (view self.old.taker.pass).pops (view self.new.taker.pass).pops
             (served_by self.old) (served_by self.new) }
         ensures ends { IfOk result (EndsAt (served_by self.new)) }
     {
         for _ in 0..MAX_CONNECTIONS {
-            if let Some(no_more) = self.take_one(rt, alloc, now)? {
+            if let Some(no_more) = self.take_one(rt, alloc, now, settings)? {
                 return Ok(no_more);
             }
         }

@@ -2,3 +2,4 @@ pub mod Accepting
 pub mod Hops
 pub mod Lists
 pub mod Looking
+pub mod Unkeyed

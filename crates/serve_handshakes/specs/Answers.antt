@@ -1,9 +1,9 @@
 -- Which answer a request gets.
-use Rattle.std.specs.Prelude.{ℕ, Bool, true, false, cond, ◌||◌, ◌&&◌, ◌==◌, nat_le, List, [], ◌∷◌, ◌++◌, length, take, drop, map, string_bytes, codes, bytes_eq, Option, None, Some, is_some}
+use Rattle.std.specs.Prelude.{ℕ, Bool, true, false, cond, ◌||◌, ◌&&◌, ◌==◌, nat_le, List, [], ◌∷◌, length, take, drop, map, string_bytes, codes, bytes_eq, Option, None, Some, is_some}
 use denote.Ref.{Bor}
 use Rattle.websocket.specs.Headers.{eq_ignore_case}
 use Rattle.serve_handshakes.specs.declared.answer.Answer.{Answer}
-use Rattle.serve_handshakes.specs.declared.answer.Answer.TheVariants.{Socket, Page, Health, Metrics, BadRequest, Forbidden, NotFound, NotAllowed, Options, NoHost, LongBody, Elsewhere}
+use Rattle.serve_handshakes.specs.declared.answer.Answer.TheVariants.{Socket, Page, Script, Health, Metrics, BadRequest, Forbidden, NotFound, NotAllowed, Options, NoHost, LongBody, Elsewhere}
 use Rattle.serve_handshakes.specs.declared.answer.Site.{Site}
 use Rattle.serve_handshakes.specs.declared.head.Request.{Request}
 
@@ -30,17 +30,6 @@ rooted (b ∷ bs) = b ∷ bs
 abbrev pub path_at : List ℕ → List ℕ
 path_at target = cond (is_absolute target) (rooted (path_in (behind_host (drop 7 target)))) (path_in target)
 
--- the piece that began with `piece`, or a later one, is the word
-abbrev pub has_word_from : List ℕ → List ℕ → List ℕ → Bool
-has_word_from wanted piece [] = bytes_eq piece wanted
-has_word_from wanted piece (b ∷ bs) =
-    cond (b == 32 || b == 44) (bytes_eq piece wanted || has_word_from wanted [] bs)
-    (has_word_from wanted (piece ++ b ∷ []) bs)
-
--- one of the pieces between spaces and commas is the word
-unfoldable pub has_word : List ℕ → List ℕ → Bool
-has_word value wanted = has_word_from wanted [] value
-
 -- one of these origins is this one, but for the case of letters
 abbrev pub is_among : List (List ℕ) → List ℕ → Bool
 is_among [] origin = false
@@ -51,25 +40,21 @@ abbrev pub lets_in : List (List ℕ) → Option (Bor (List ℕ)) → Bool
 lets_in origins None = true
 lets_in origins (Some origin) = length origins == 0 || is_among origins origin.now
 
--- whether the subprotocol `phoenix` is asked for
-abbrev pub told_protocol : Option (Bor (List ℕ)) → Bool
-told_protocol None = false
-told_protocol (Some protocols) = has_word protocols.now (codes "phoenix")
-
 -- what a request for a WebSocket gets
 abbrev pub socket_in : Site → Request → Answer
 socket_in site r =
     cond site.has_clients
     (cond (is_some r.accept)
-    (cond (lets_in (map string_bytes site.origins.now) r.origin) (Socket (told_protocol r.protocols)) Forbidden) BadRequest)
+    (cond (lets_in (map string_bytes site.origins.now) r.origin) (Socket r.has_protocol) Forbidden) BadRequest)
     Elsewhere
 
 -- what stands at a path
 abbrev pub page_in : Site → List ℕ → Answer
 page_in site path =
     cond (bytes_eq path (codes "/")) (cond site.has_clients Page Elsewhere)
+    (cond (bytes_eq path (codes "/presence.js")) (cond site.has_clients Script Elsewhere)
     (cond (bytes_eq path (codes "/health")) Health
-    (cond (bytes_eq path (codes "/metrics")) (cond site.has_metrics Metrics Elsewhere) NotFound))
+    (cond (bytes_eq path (codes "/metrics")) (cond site.has_metrics Metrics Elsewhere) NotFound)))
 
 -- what a request gets that asks for no WebSocket: a HEAD as a GET (RFC 9110, section 9.3.2)
 abbrev pub plain_in : Site → Request → Answer

@@ -8,6 +8,7 @@ use Rattle.httparse.specs.declared.spans.RequestSpans.{RequestSpans}
 use Rattle.websocket.specs.Handshake.{IsValidKey, accept_key_of}
 use Rattle.websocket.specs.Headers.{Fields, field_line, fields_of, header_value, value_is, crlf}
 use Rattle.serve_handshakes.specs.Fields.{has_host, is_long_body, lists}
+use Rattle.serve_handshakes.specs.Protocols.{asks_protocol, protocol_behind}
 use Rattle.serve_handshakes.specs.declared.head.TheConstants.{MAX_FIELDS}
 use Rattle.serve_handshakes.specs.declared.head.Parsed.{Parsed}
 use Rattle.serve_handshakes.specs.declared.head.Parsed.TheVariants.{Partial, Whole, Long, Junk}
@@ -57,8 +58,11 @@ pub record IsHeadOf (head : List ℕ) (spans : List HeaderSpan) (found : Request
   pub upgrades : r.upgrades ≡ lists (fields_at head spans found) (codes "Upgrade") (codes "websocket")
   pub origin : option_map (λ (v : Bor (List ℕ)). v.now) r.origin
       ≡ header_value (fields_at head spans found) (codes "Origin")
-  pub protocols : option_map (λ (v : Bor (List ℕ)). v.now) r.protocols
-      ≡ header_value (fields_at head spans found) (codes "Sec-WebSocket-Protocol")
+  pub has_protocol : r.has_protocol ≡ asks_protocol (fields_at head spans found) (codes "phoenix")
+  pub carried : option_map (λ (v : Bor (List ℕ)). v.now) r.carried
+      ≡ protocol_behind (fields_at head spans found) (codes "base64url.bearer.phx.")
+  pub authorization : option_map (λ (v : Bor (List ℕ)). v.now) r.authorization
+      ≡ header_value (fields_at head spans found) (codes "Authorization")
   pub accept : IsAcceptOf (key_at head spans found) r.accept
   pub asking : IfSome r.accept (λ key. IsAsking head)
   pub bytes : r.bytes ≡ found.len

@@ -1,10 +1,14 @@
+pub mod Answering
 pub mod Answers
 pub mod Clients
 pub mod Fields
 pub mod Heads
 pub mod Introductions
+pub mod Protocols
 pub mod Replies
 pub mod Addresses
 pub mod Greeting
 pub mod Guests
 pub mod Seating
+pub mod Shown
+pub mod SigningIn

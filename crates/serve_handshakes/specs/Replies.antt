@@ -2,14 +2,18 @@
 use Rattle.std.specs.Prelude.{◌≡◌, ℕ, Bool, false, cond, not, List, [], bytes_eq, codes, Some}
 use Rattle.serve_handshakes.specs.Heads.{Opens, bare_bytes, plain_bytes}
 use Rattle.serve_handshakes.specs.declared.answer.Answer.{Answer}
-use Rattle.serve_handshakes.specs.declared.answer.Answer.TheVariants.{Socket, Page, Health, Metrics, BadRequest, Forbidden, NotFound, NotAllowed, Options, NoHost, LongHead, LongBody, Elsewhere, Unwell, Full, Crowded, Hasty}
+use Rattle.serve_handshakes.specs.declared.answer.Answer.TheVariants.{Socket, Page, Script, Health, Metrics, BadRequest, Forbidden, NotFound, NotAllowed, Options, NoHost, LongHead, LongBody, Elsewhere, Unwell, Full, Crowded, Hasty, Unauthorized}
 use Rattle.serve_handshakes.specs.declared.head.Request.{Request}
+use Rattle.serve_handshakes.specs.declared.unsigned.Unsigned.{Unsigned}
+use Rattle.serve_handshakes.specs.declared.unsigned.Unsigned.TheVariants.{NoToken, Malformed, OtherAlgorithm, BadSignature, BadClaims, TooEarly, Expired}
 use Rattle.serve_handshakes.specs.declared.page.TheConstants.{PAGE}
+use Rattle.serve_handshakes.specs.declared.script.TheConstants.{SCRIPT}
 
 -- the status of an answer, with the fields that go with it
 abbrev pub status_in : Answer → List ℕ
 status_in (Socket has_protocol) = codes "101 Switching Protocols"
 status_in Page = codes "200 OK"
+status_in Script = codes "200 OK\r\naccess-control-allow-origin: *"
 status_in Health = codes "200 OK"
 status_in Metrics = codes "200 OK"
 status_in BadRequest = codes "400 Bad Request"
@@ -25,10 +29,22 @@ status_in Unwell = codes "503 Service Unavailable"
 status_in Full = codes "503 Service Unavailable\r\nretry-after: 5"
 status_in Crowded = codes "503 Service Unavailable\r\nretry-after: 5"
 status_in Hasty = codes "429 Too Many Requests\r\nretry-after: 5"
+status_in (Unauthorized why) = codes "401 Unauthorized\r\nwww-authenticate: Bearer"
+
+-- what a client is told that isn't signed in
+abbrev pub unsigned_text : Unsigned → List ℕ
+unsigned_text NoToken = codes "no token is shown\n"
+unsigned_text Malformed = codes "this is no token\n"
+unsigned_text OtherAlgorithm = codes "the token is not signed by HS256 alone\n"
+unsigned_text BadSignature = codes "the token is signed by none of this server's keys\n"
+unsigned_text BadClaims = codes "the token's claims are not what they may be\n"
+unsigned_text TooEarly = codes "the token is not valid yet\n"
+unsigned_text Expired = codes "the token has expired\n"
 
 -- What stands in the text of an answer: its own words, and of all of them the metrics in that which tells them alone.
 abbrev pub Says : List ℕ → Answer → List ℕ → Type 0
 Says metrics Page body = body ≡ PAGE.now
+Says metrics Script body = body ≡ SCRIPT.now
 Says metrics Metrics body = body ≡ metrics
 Says metrics Health body = body ≡ codes "ok\n"
 Says metrics Unwell body = body ≡ codes "calls fail\n"
@@ -42,6 +58,7 @@ Says metrics Elsewhere body = body ≡ codes "this is at another port\n"
 Says metrics Full body = body ≡ codes "no place is free\n"
 Says metrics Crowded body = body ≡ codes "no further client of this address is taken\n"
 Says metrics Hasty body = body ≡ codes "clients of this address come too fast\n"
+Says metrics (Unauthorized why) body = body ≡ unsigned_text why
 Says metrics NotFound body = body ≡ codes "here are /, /health and /metrics\n"
 Says metrics Options body = body ≡ codes "here are /, /health and /metrics\n"
 Says metrics (Socket has_protocol) body = body ≡ codes "here are /, /health and /metrics\n"
@@ -49,6 +66,7 @@ Says metrics (Socket has_protocol) body = body ≡ codes "here are /, /health an
 -- as which kind an answer is told
 abbrev pub kind_in : Answer → List ℕ
 kind_in Page = codes "text/html; charset=utf-8"
+kind_in Script = codes "text/javascript; charset=utf-8"
 kind_in Metrics = codes "text/plain; version=0.0.4; charset=utf-8"
 kind_in answer = codes "text/plain; charset=utf-8"
 

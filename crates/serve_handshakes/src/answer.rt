@@ -1,9 +1,10 @@
 //! Which answer a request gets.
 ghost use Rattle.std.specs.Prelude.{◌≡◌, cond, map, string_bytes};
-ghost use Rattle.serve_handshakes.specs.Answers.{answer_in, behind_host, has_word, is_among, lets_in, page_in, path_at, path_in, plain_in, socket_in, told_protocol};
+ghost use Rattle.serve_handshakes.specs.Answers.{answer_in, behind_host, is_among, lets_in, page_in, path_at, path_in, plain_in, socket_in};
 
 use crate::fields::same_but_for_case;
 use crate::head::Request;
+use crate::unsigned::Unsigned;
 
 /// What a request gets.
 #[derive(Clone, Copy, PartialEq, Eq, Debug)]
@@ -12,6 +13,8 @@ pub enum Answer {
     Socket(bool),
     /// The page with a room.
     Page,
+    /// The library for pages.
+    Script,
     /// That the program is there.
     Health,
     /// What the program has counted.
@@ -41,6 +44,8 @@ pub enum Answer {
     Crowded,
     /// The same, and clients of its address come too fast.
     Hasty,
+    /// The same, and it isn't signed in where clients have to be.
+    Unauthorized(Unsigned),
 }
 
 /// What is asked for at a port.
@@ -92,22 +97,6 @@ fn path_at(target: &[u8]) -> &[u8]
     if path.is_empty() { b"/" } else { path }
 }
 
-// Whether one of the pieces between spaces and commas is this word.
-fn has_word(value: &[u8], wanted: &[u8]) -> bool
-    ensures { result ≡ has_word value.now wanted.now }
-{
-    let mut start = 0;
-    for i in 0..value.len() {
-        if value[i] == b' ' || value[i] == b',' {
-            if &value[start..i] == wanted {
-                return true;
-            }
-            start = i + 1;
-        }
-    }
-    &value[start..] == wanted
-}
-
 // Whether one of these origins is this one.
 fn is_named(origins: &[String], origin: &[u8]) -> bool
     ensures { result ≡ is_among (map string_bytes origins.now) origin.now }
@@ -130,16 +119,6 @@ fn lets_in(origins: &[String], origin: Option<&[u8]>) -> bool
     }
 }
 
-// Whether the subprotocol is told.
-fn told_protocol(protocols: Option<&[u8]>) -> bool
-    ensures { result ≡ told_protocol protocols.entry }
-{
-    match protocols {
-        Some(protocols) => has_word(protocols, b"phoenix"),
-        None => false,
-    }
-}
-
 // What a request for a WebSocket gets.
 fn socket_answer(request: &Request<'_>, site: &Site<'_>) -> Answer
     ensures { result ≡ socket_in site.now request.now }
@@ -149,7 +128,7 @@ fn socket_answer(request: &Request<'_>, site: &Site<'_>) -> Answer
     } else if request.accept.is_none() {
         Answer::BadRequest
     } else if lets_in(site.origins, request.origin) {
-        Answer::Socket(told_protocol(request.protocols))
+        Answer::Socket(request.has_protocol)
     } else {
         Answer::Forbidden
     }
@@ -168,6 +147,8 @@ fn page_at(path: &[u8], site: &Site<'_>) -> Answer
 {
     if path == b"/".as_slice() {
         if_here(site.has_clients, Answer::Page)
+    } else if path == b"/presence.js".as_slice() {
+        if_here(site.has_clients, Answer::Script)
     } else if path == b"/health".as_slice() {
         Answer::Health
     } else if path == b"/metrics".as_slice() {

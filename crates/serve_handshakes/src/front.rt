@@ -4,6 +4,7 @@ use crate::greeting::GivenUp;
 use crate::seating::Admission;
 use std::alloc::{AllocError, Global};
 use std::net::IpAddr;
+use tokens::Signing;
 
 /// What is told of the program, and what it is told of its clients.
 pub trait Tells {
@@ -22,11 +23,20 @@ pub trait Tells {
 
 /// Who knows the clients of each address, and their streams.
 pub trait Keeper<S> {
+    ghost use Rattle.std.specs.Prelude.{◌≡◌, ℕ, List, Option, Some};
+
+    /// The token that a stream carries.
+    ghost shown: { S → Option (List ℕ) };
+
     /// How the client at this address stands whom a proxy brings on this stream.
     fn standing_of(&mut self, alloc: Global, stream: &mut S, address: IpAddr) -> Admission;
 
     /// Ends the server's side of a stream, behind all that was sent.
     fn hang_up(&mut self, stream: &mut S);
+
+    /// A stream carries the token that its client has shown.
+    fn shows(&mut self, stream: &mut S, token: Vec<u8>)
+        ensures { shown stream.new ≡ Some token.items };
 }
 
 /// What requests are answered from.
@@ -44,4 +54,6 @@ pub struct Front<'a, T, K> {
     pub places: u64,
     pub tells: &'a T,
     pub keeper: &'a mut K,
+    /// How clients sign in, where they have to.
+    pub signing: Option<Signing<'a>>,
 }

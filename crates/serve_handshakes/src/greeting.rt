@@ -1,8 +1,9 @@
 //! One client's handshake.
-ghost use Rattle.std.specs.Prelude.{◌≡◌};
+ghost use Rattle.std.specs.Prelude.{◌≡◌, IfOk, IfSome};
 ghost use Rattle.serve_handshakes.specs.Greeting.{IsKnownFrom, while_well_in};
 ghost use Rattle.serve_handshakes.specs.Clients.{IsClientOf};
 ghost use Rattle.serve_handshakes.specs.Heads.{HasRequest};
+ghost use Rattle.serve_handshakes.specs.Answering.{Admits, Answers, IsAnsweredBy};
 
 use crate::answer::{Answer, Site, answer_of};
 use crate::front::{Front, Keeper, Tells};
@@ -10,7 +11,8 @@ use crate::head::{Parsed, Request, read_request};
 use crate::party::{MAX_EMPTY_READS, Party};
 use crate::reply::Reply;
 use crate::replying::{plain, reply_of};
-use crate::seating::seated;
+use crate::seating::{Admission, seated};
+use crate::signing_in::sign_in;
 use serve_sockets::WebSocket;
 use std::alloc::{AllocError, Global};
 use std::io::{ErrorKind, Read, Write};
@@ -119,6 +121,12 @@ fn answer_for<S: Read + Write + Drop, T: Tells, K: Keeper<S>>(
     ensures reads { party.new.empty_reads ≡ party.old.empty_reads }
     ensures client { IsClientOf front.old.proxies.now head.now party.old.address party.new.address }
     ensures proxies { front.new.proxies ≡ front.old.proxies }
+    ensures answers { Answers (record {
+      origins = front.old.origins;
+      has_clients = front.old.has_clients;
+      has_metrics = front.old.has_metrics;
+    }) front.old.signing front.old.places request.now result }
+    ensures admits { Admits front.old.signing request.now (K.shown party.new.stream) result }
 {
     party.find_client(head, front.proxies);
     let site = Site {
@@ -131,7 +139,19 @@ fn answer_for<S: Read + Write + Drop, T: Tells, K: Keeper<S>>(
         return answer;
     }
     let standing = party.stands(alloc, front);
-    seated(answer, standing, &mut front.places)
+    if standing != Admission::Welcome {
+        return seated(answer, standing, &mut front.places);
+    }
+    match sign_in(
+        alloc,
+        request,
+        front.signing,
+        front.keeper,
+        &mut party.stream,
+    ) {
+        Ok(()) => seated(answer, standing, &mut front.places),
+        Err(refused) => refused,
+    }
 }
 
 // What is sent for a request, if anything is.
@@ -147,6 +167,11 @@ fn reply_for<S: Read + Write + Drop, T: Tells, K: Keeper<S>>(
     ensures reads { party.new.empty_reads ≡ party.old.empty_reads }
     ensures client { IsClientOf front.old.proxies.now head.now party.old.address party.new.address }
     ensures proxies { front.new.proxies ≡ front.old.proxies }
+    ensures replies { IfOk result (λ reply. IfSome reply (IsAnsweredBy (record {
+      origins = front.old.origins;
+      has_clients = front.old.has_clients;
+      has_metrics = front.old.has_metrics;
+    }) front.old.signing front.old.places request.now (K.shown party.new.stream))) }
 {
     let answer = answer_for(alloc, head, request, party, front);
     front.tells.answered(answer, &party.address);

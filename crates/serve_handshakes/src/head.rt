@@ -6,6 +6,7 @@ ghost use Rattle.websocket.specs.Headers.{fields_of};
 ghost use Rattle.serve_handshakes.specs.Heads.{IsAcceptOf, IsAsking, IsHeadOf, IsParsed, asks_socket, key_at};
 
 use crate::fields::{field, host_count, is_long_body, lists, tells};
+use crate::protocols::{asks_protocol, protocol_behind};
 use httparse::spans::{EMPTY_HEADER_SPAN, HeaderSpan, RequestSpans, parse_request};
 use httparse::{Error, Status};
 use websocket::handshake::server::accept_key;
@@ -28,9 +29,13 @@ pub struct Request<'a> {
     /// What its key is answered by, where it asks for a WebSocket as it must.
     pub accept: Option<[u8; 28]>,
     pub origin: Option<&'a [u8]>,
-    pub protocols: Option<&'a [u8]>,
+    /// Whether it asks for the subprotocol `phoenix`.
+    pub has_protocol: bool,
+    /// What a subprotocol carries that carries a token.
+    pub carried: Option<&'a [u8]>,
     /// How many bytes its head has.
     pub bytes: usize,
+    pub authorization: Option<&'a [u8]>,
 }
 
 /// What bytes of a client are.
@@ -110,8 +115,10 @@ fn request_in<'a>(head: &'a [u8], found: &RequestSpans, spans: &[HeaderSpan]) ->
         upgrades: lists(head, fields, b"Upgrade", b"websocket"),
         accept: accepted(head, found, spans),
         origin: field(head, fields, b"Origin"),
-        protocols: field(head, fields, b"Sec-WebSocket-Protocol"),
+        has_protocol: asks_protocol(head, fields, b"phoenix"),
+        carried: protocol_behind(head, fields, b"base64url.bearer.phx."),
         bytes: found.len,
+        authorization: field(head, fields, b"Authorization"),
     }
 }
 

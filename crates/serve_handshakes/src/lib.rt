@@ -6,7 +6,8 @@
 //! are not over, `specs/Seating` who gets a WebSocket. `specs/Answers` is the table of answers, `specs/Fields` says
 //! what stands in the fields of a head, `specs/Heads` what is looked at of a head, and which bytes open a
 //! WebSocket, `specs/Clients` and `specs/Introductions` whom a request is from, and `specs/Replies` what is sent
-//! for an answer.
+//! for an answer. `specs/Protocols` has the subprotocols that a request asks for, `specs/Shown` the token that it
+//! shows, `specs/SigningIn` what a client gets by it, and `specs/Answering` how all of this makes an answer.
 #![tactic(auto)]
 
 mod address;
@@ -22,10 +23,15 @@ pub mod laws;
 mod pace;
 mod page;
 mod party;
+mod protocols;
 mod reply;
 mod replying;
 pub mod request_laws;
+mod script;
 mod seating;
+mod shown;
+mod signing_in;
+mod unsigned;
 mod writing;
 
 pub use address::{counted_by, is_near};
@@ -40,4 +46,6 @@ pub use introduction::MAX_LINE_BYTES;
 pub use pace::{BURST_MICROSECONDS, Pace};
 pub use page::PAGE;
 pub use party::MAX_EMPTY_READS;
+pub use script::SCRIPT;
 pub use seating::{Admission, seated};
+pub use unsigned::Unsigned;

@@ -37,20 +37,33 @@ pub const PAGE: &str = r##"<!doctype html>
   <button id="leave">Leave</button>
 </div>
 <p id="heard" role="status"></p>
+<script src="presence.js"></script>
 <script>
-// A client of Phoenix Channels (V2 JSON), without a library. A server tells it at its own port: open that in two tabs,
+// A page of presence.js. A server tells both at its own port: open that in two tabs,
 //     ./presence_node serve
 //     http://127.0.0.1:4000/
 // It connects to where it came from. As a file it connects to 127.0.0.1, at port 4000 or the one that ?port= says.
-// ?name=ann&room=lobby joins at once.
+// ?name=ann&room=lobby joins at once, and so does ?token=, by which it signs in as phoenix.js does by its authToken.
 const asked = new URLSearchParams(location.search);
 const scheme = location.protocol === "https:" ? "wss" : "ws";
 const place = location.host || "127.0.0.1:" + (asked.get("port") || "4000");
 const show = id => document.getElementById(id);
-const BEAT = 4000, LONGEST_WAIT = 30000, MOST_LINES = 200;
-// Where the server closes so before it answered the join, to try again would end the same way.
-const REFUSALS = { 1008: "no such room or name is taken", 1009: "that is too long" };
-let name, topic, leave;
+const MOST_LINES = 200;
+// What the server means where it closes the connection in place of a refusal, and where a token has ended.
+const REFUSALS = { 1008: "no such room or name is taken (1008)", 1009: "that is too long (1009)" };
+const UNAUTHORIZED = 3000;
+const token = asked.get("token") || undefined;
+let name, presence, room, began;
+
+// Under which name a token lets one be seen, where it can be read.
+function subject(token) {
+  try {
+    const claims = atob(token.split(".")[1].replaceAll("-", "+").replaceAll("_", "/"));
+    return JSON.parse(new TextDecoder().decode(Uint8Array.from(claims, byte => byte.charCodeAt(0)))).sub;
+  } catch {
+    return "";
+  }
+}
 
 // What another client says may be anything: only texts are shown, and no more of one than a few lines take.
 const text = (value, most = 200) => typeof value === "string" ? value.slice(0, most) : "";
@@ -66,26 +79,9 @@ function own(value, className = "") {
 // Since when somebody is here, by the clock of who looks: its own said milliseconds, or, as another client, a text.
 const since = meta => Number.isSafeInteger(meta.since) ? new Date(meta.since).toLocaleTimeString() : text(meta.since, 40);
 
-// Who is here: key to list of metas, each with its reference. (A Map, since a key may be `constructor` or `__proto__`.)
-let people = new Map();
-
-// A state replaces what was known. Of a diff the joins are taken first, and then the leaves.
-function fold(have, diff) {
-  for (const [key, { metas }] of Object.entries(diff.joins)) {
-    const joined = new Set(metas.map(meta => meta.phx_ref));
-    have.set(key, (have.get(key) || []).filter(meta => !joined.has(meta.phx_ref)).concat(metas));
-  }
-  for (const [key, { metas }] of Object.entries(diff.leaves)) {
-    const left = new Set(metas.map(meta => meta.phx_ref));
-    const stay = (have.get(key) || []).filter(meta => !left.has(meta.phx_ref));
-    if (stay.length === 0) have.delete(key); else have.set(key, stay);
-  }
-}
-
 // One line a name. Somebody who is here twice, in two tabs, has two metas. A meta of another client may tell no time.
 function draw() {
-  show("people").replaceChildren(...[...people.keys()].sort().map(key => {
-    const metas = people.get(key);
+  show("people").replaceChildren(...room.list().map(({ key, metas }) => {
     const line = document.createElement("li");
     const times = metas.map(since).filter(time => time).join(", ");
     line.className = key === name ? "me" : "";
@@ -97,11 +93,25 @@ function draw() {
 }
 
 // Who came and who went, for those who hear the page.
-function tell(before) {
-  const came = [...people.keys()].filter(key => !before.has(key)), went = [...before].filter(key => !people.has(key));
+function tell(came, went) {
   const named = keys => keys.length > 3 ? keys.length + " people" : keys.map(key => text(key, 60)).join(", ");
   const parts = [[came, " came"], [went, " went"]].filter(([keys]) => keys.length > 0);
   show("heard").textContent = parts.map(([keys, deed]) => named(keys) + deed).join("; ");
+}
+
+// Draws who is here whenever that is known, and tells who came and went since it was known first.
+function follow() {
+  let isKnown = false, came = [], went = [];
+  room.onJoin(key => came.push(key));
+  room.onLeave(key => went.push(key));
+  room.onSync(() => {
+    if (room.state !== "joined") return;
+    draw();
+    if (isKnown) tell(came, went);
+    isKnown = true;
+    came = [];
+    went = [];
+  });
 }
 
 function hear(payload) {
@@ -117,8 +127,8 @@ function hear(payload) {
 
 // Back to the form, with why.
 function lead_back(why) {
-  people = new Map();
-  draw();
+  presence?.close();
+  show("people").replaceChildren();
   show("topic").textContent = "the room";
   show("state").textContent = why;
   show("inside").hidden = true;
@@ -126,102 +136,58 @@ function lead_back(why) {
   show("name").focus();
 }
 
-// Connects, and again where the connection is lost: after half a second, then twice as long each time. It is lost too where
-// a heartbeat has no answer until the next one. A browser waits for the other end before it tells of a close of its own, so
-// nothing waits for that.
-function connect(wait, began) {
-  const socket = new WebSocket(scheme + "://" + place + "/socket/websocket?vsn=2.0.0");
-  let reference = 1, beats, joined = false, answered = true, next;
-  const send = (where, ref, event, payload) => {
-    if (socket.readyState === 1) socket.send(JSON.stringify([where === topic ? "1" : null, ref, where, event, payload]));
-  };
-  const push = (where, event, payload) => send(where, String(++reference), event, payload);
-  const meta = () => ({ since: began, status: show("status").value });
+// What is shown of the room's state.
+const STATES = {
+  joining: () => {},
+  joined: () => show("state").replaceChildren("You are ", own(name), "."),
+  connecting: ({ code, reason, wait }) => code === UNAUTHORIZED ? lead_back("The token has ended.") :
+    show("state").textContent = `No connection (${text(reason) || code}). Next try in ${(wait / 1000).toFixed(1)} s.`,
+  refused: ({ code, reason }) => lead_back(`Refused: ${REFUSALS[code] ?? text(reason)}.`),
+  left: ({ reason }) => reason && lead_back(`The server has ended this: ${text(reason)}.`),
+};
 
-  function end() {
-    socket.onopen = socket.onmessage = socket.onclose = null;
-    socket.close();
-    clearInterval(beats);
-    clearTimeout(next);
-  }
-  function lose(code) {
-    end();
-    if (!joined && REFUSALS[code]) return lead_back("Refused: " + REFUSALS[code] + " (" + code + ").");
-    const pause = joined ? 500 : wait;
-    show("state").textContent = "No connection (" + code + "). Next try in " + pause / 1000 + " s.";
-    next = setTimeout(connect, pause, Math.min(2 * pause, LONGEST_WAIT), began);
-  }
-  leave = why => {
-    push(topic, "phx_leave", {});
-    end();
-    lead_back(why);
-  };
+const meta = () => ({ since: began, status: show("status").value });
+// What is refused by the server is shown. (Of a lost connection the state tells already.)
+const complain = ({ reason }) => reason && (show("state").textContent = `Refused: ${text(reason)}.`);
 
-  beats = setInterval(() => {
-    if (!answered) return lose("no answer");
-    answered = false;
-    push("phoenix", "heartbeat", {});
-  }, BEAT);
-  socket.onopen = () => {
-    answered = true;
-    send(topic, "1", "phx_join", { key: name, meta: meta() });
-  };
-  socket.onmessage = ({ data }) => {
-    const [, ref, where, event, payload] = JSON.parse(data);
-    answered = true;
-    if (where !== topic) return;
-    if (event === "phx_reply" && payload.status !== "ok") {
-      const why = "Refused: " + text(payload.response.reason) + ".";
-      if (ref === "1") leave(why); else show("state").textContent = why;
-    }
-    if (event === "presence_state") {
-      const before = new Set(people.keys());
-      people = new Map(Object.entries(payload).map(([key, one]) => [key, one.metas]));
-      show("state").replaceChildren("You are ", own(name), ".");
-      if (joined) tell(before);
-      joined = true;
-      draw();
-    }
-    if (event === "presence_diff") {
-      const before = new Set(people.keys());
-      fold(people, payload);
-      draw();
-      tell(before);
-    }
-    if (event === "shout") hear(payload);
-  };
-  socket.onclose = ({ code }) => lose(code);
-  show("be").onsubmit = event => {
-    event.preventDefault();
-    push(topic, "update", { key: name, meta: meta() });
-  };
-  show("say").onsubmit = event => {
-    event.preventDefault();
-    if (socket.readyState !== 1 || !show("words").value) return;
-    push(topic, "shout", { from: name, text: show("words").value });
-    show("words").value = "";
-  };
-}
-
-function enter(asName, room) {
+function enter(asName, inRoom) {
   name = asName;
-  topic = "room:" + room;
+  began = Date.now();
   show("name").value = name;
-  show("room").value = room;
-  show("topic").textContent = text(topic);
+  show("room").value = inRoom;
+  show("topic").textContent = text("room:" + inRoom);
   show("state").textContent = "Connecting.";
   show("enter").hidden = true;
   show("inside").hidden = false;
   show("words").focus();
-  connect(500, Date.now());
+  presence = new Presence(`${scheme}://${place}/socket`, { token: () => token });
+  room = presence.join("room:" + inRoom, name, meta());
+  room.onState((state, why) => STATES[state](why));
+  room.onShout(hear);
+  follow();
 }
 show("enter").onsubmit = event => {
   event.preventDefault();
-  const asName = show("name").value.trim(), room = show("room").value.trim();
-  if (asName && room) enter(asName, room); else lead_back("A name and a room are wanted.");
+  const asName = show("name").value.trim(), inRoom = show("room").value.trim();
+  if (asName && inRoom) enter(asName, inRoom); else lead_back("A name and a room are wanted.");
 };
-show("leave").onclick = () => leave("You left.");
-if (asked.get("name")) enter(asked.get("name"), asked.get("room") || "lobby");
+show("be").onsubmit = event => {
+  event.preventDefault();
+  room.track(name, meta()).catch(complain);
+};
+show("say").onsubmit = event => {
+  event.preventDefault();
+  const words = show("words").value;
+  if (room.state !== "joined" || !words) return;
+  show("words").value = "";
+  room.shout({ from: name, text: words }).catch(error => {
+    complain(error);
+    show("words").value ||= words;
+  });
+};
+show("leave").onclick = () => lead_back("You left.");
+const first = asked.get("name") || (token && text(subject(token)));
+if (first) enter(first, asked.get("room") || "lobby");
 </script>
 </html>
 "##;

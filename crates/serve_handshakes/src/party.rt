@@ -82,6 +82,8 @@ impl<S: Read + Write + Drop> Party<S> {
         ensures reads { self.new.empty_reads ≡ self.old.empty_reads }
         ensures address { self.new.address ≡ self.old.address }
         ensures proxies { front.new.proxies ≡ front.old.proxies }
+        ensures places { front.new.places ≡ front.old.places }
+        ensures signing { front.new.signing ≡ front.old.signing }
     {
         if let Some(standing) = self.standing {
             return standing;

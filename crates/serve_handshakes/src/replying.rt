@@ -1,13 +1,17 @@
 //! What is sent for an answer.
 ghost use Rattle.std.specs.Prelude.{◌≡◌, IfOk, IfSome};
 ghost use Rattle.serve_handshakes.specs.Heads.{HasRequest};
-ghost use Rattle.serve_handshakes.specs.Replies.{IsPlainReply, IsReplyTo, IsTextReply, Says, kind_in, status_in};
+ghost use Rattle.serve_handshakes.specs.Replies.{IsPlainReply, IsReplyTo, IsTextReply, Says, kind_in, status_in, unsigned_text};
 
 use crate::answer::Answer;
 use crate::head::Request;
 use crate::page::PAGE;
 use crate::reply::Reply;
-use crate::writing::{METRICS_KIND, PAGE_KIND, TEXT_KIND, bare_reply, opening, plain_reply};
+use crate::script::SCRIPT;
+use crate::unsigned::Unsigned;
+use crate::writing::{
+    METRICS_KIND, PAGE_KIND, SCRIPT_KIND, TEXT_KIND, bare_reply, opening, plain_reply,
+};
 use std::alloc::{AllocError, Global};
 
 // The status of an answer, with the fields that go with it. (A WebSocket's is written with its key.)
@@ -17,8 +21,10 @@ fn status_of(answer: Answer) -> &'static str
     match answer {
         Answer::Socket(_) => "101 Switching Protocols",
         Answer::Page | Answer::Health | Answer::Metrics => "200 OK",
+        Answer::Script => "200 OK\r\naccess-control-allow-origin: *",
         Answer::Options => "204 No Content\r\nallow: GET, HEAD, OPTIONS",
         Answer::BadRequest | Answer::NoHost => "400 Bad Request",
+        Answer::Unauthorized(_) => "401 Unauthorized\r\nwww-authenticate: Bearer",
         Answer::Forbidden => "403 Forbidden",
         Answer::NotFound | Answer::Elsewhere => "404 Not Found",
         Answer::NotAllowed => "405 Method Not Allowed\r\nallow: GET, HEAD, OPTIONS",
@@ -36,8 +42,24 @@ fn kind_of(answer: Answer) -> &'static str
 {
     match answer {
         Answer::Page => PAGE_KIND,
+        Answer::Script => SCRIPT_KIND,
         Answer::Metrics => METRICS_KIND,
         _ => TEXT_KIND,
+    }
+}
+
+// What a client is told that isn't signed in.
+fn unsigned_text(why: Unsigned) -> &'static str
+    ensures { result.now ≡ unsigned_text why }
+{
+    match why {
+        Unsigned::NoToken => "no token is shown\n",
+        Unsigned::Malformed => "this is no token\n",
+        Unsigned::OtherAlgorithm => "the token is not signed by HS256 alone\n",
+        Unsigned::BadSignature => "the token is signed by none of this server's keys\n",
+        Unsigned::BadClaims => "the token's claims are not what they may be\n",
+        Unsigned::TooEarly => "the token is not valid yet\n",
+        Unsigned::Expired => "the token has expired\n",
     }
 }
 
@@ -47,6 +69,7 @@ fn body_of(answer: Answer, metrics: &str) -> &str
 {
     match answer {
         Answer::Page => PAGE,
+        Answer::Script => SCRIPT,
         Answer::Metrics => metrics,
         Answer::Health => "ok\n",
         Answer::Unwell => "calls fail\n",
@@ -60,6 +83,7 @@ fn body_of(answer: Answer, metrics: &str) -> &str
         Answer::Full => "no place is free\n",
         Answer::Crowded => "no further client of this address is taken\n",
         Answer::Hasty => "clients of this address come too fast\n",
+        Answer::Unauthorized(why) => unsigned_text(why),
         Answer::NotFound | Answer::Options | Answer::Socket(_) => {
             "here are /, /health and /metrics\n"
         }

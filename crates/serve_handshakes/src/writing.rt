@@ -9,8 +9,10 @@ use httparse::Header;
 use std::alloc::{AllocError, Global};
 use websocket::handshake::server::write_response;
 
-/// What pages, plain texts and metrics are told as.
+/// What pages, scripts, plain texts and metrics are told as.
 pub const PAGE_KIND: &str = "text/html; charset=utf-8";
+
+pub const SCRIPT_KIND: &str = "text/javascript; charset=utf-8";
 
 pub const TEXT_KIND: &str = "text/plain; charset=utf-8";
 

@@ -355,17 +355,19 @@ connections_behind text t = waiting_behind (taken_behind text t) t
 
 unfoldable pub requests_behind : List ℕ → AnswersTold → List ℕ
 requests_behind text a = with_named text REQUESTS (
-    (codes "socket", a.sockets) ∷ (codes "page", a.pages) ∷ (codes "health", a.health)
+    (codes "socket", a.sockets) ∷ (codes "page", a.pages) ∷ (codes "script", a.scripts) ∷ (codes "health", a.health)
     ∷ (codes "metrics", a.metrics) ∷ (codes "bad_request", a.bad_requests) ∷ (codes "forbidden", a.forbidden)
     ∷ (codes "not_found", a.not_found) ∷ (codes "not_allowed", a.not_allowed)
     ∷ (codes "options", a.options) ∷ (codes "no_host", a.no_host) ∷ (codes "long_head", a.long_head)
     ∷ (codes "long_body", a.long_body) ∷ (codes "elsewhere", a.elsewhere) ∷ (codes "unwell", a.unwell)
-    ∷ (codes "full", a.full) ∷ (codes "crowded", a.crowded) ∷ (codes "hasty", a.hasty) ∷ [])
+    ∷ (codes "full", a.full) ∷ (codes "crowded", a.crowded) ∷ (codes "hasty", a.hasty)
+    ∷ (codes "unauthorized", a.unauthorized) ∷ [])
 
 unfoldable pub ends_behind : List ℕ → EndsTold → List ℕ
 ends_behind text e = with_named text ENDED (
     (codes "1000", e.normal) ∷ (codes "1001", e.away) ∷ (codes "1003", e.unsupported) ∷ (codes "1008", e.policy)
-    ∷ (codes "1009", e.size) ∷ (codes "1011", e.error) ∷ (codes "client", e.client) ∷ (codes "stream", e.stream) ∷ [])
+    ∷ (codes "1009", e.size) ∷ (codes "1011", e.error) ∷ (codes "3000", e.unauthorized) ∷ (codes "client", e.client)
+    ∷ (codes "stream", e.stream) ∷ [])
 
 unfoldable pub accepted_behind : List ℕ → Tally → List ℕ
 accepted_behind text c = with_named text CALLS (

@@ -35,6 +35,7 @@ fn all_ends(ends: &EndsTold) -> u64 {
         ends.policy,
         ends.size,
         ends.error,
+        ends.unauthorized,
         ends.client,
         ends.stream,
     ];

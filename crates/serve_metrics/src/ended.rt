@@ -14,6 +14,8 @@ pub enum Ended {
     Size,
     /// 1011
     Error,
+    /// 3000
+    Unauthorized,
     /// Its client closed it.
     Client,
     /// Its stream failed, or its client took nothing for too long.

@@ -10,6 +10,7 @@ use serve_ports::Tally;
 pub(crate) struct Answers {
     sockets: Count,
     pages: Count,
+    scripts: Count,
     health: Count,
     metrics: Count,
     bad_requests: Count,
@@ -25,6 +26,7 @@ pub(crate) struct Answers {
     full: Count,
     crowded: Count,
     hasty: Count,
+    unauthorized: Count,
 }
 
 impl Answers {
@@ -32,6 +34,7 @@ impl Answers {
         Answers {
             sockets: Count::new(),
             pages: Count::new(),
+            scripts: Count::new(),
             health: Count::new(),
             metrics: Count::new(),
             bad_requests: Count::new(),
@@ -47,6 +50,7 @@ impl Answers {
             full: Count::new(),
             crowded: Count::new(),
             hasty: Count::new(),
+            unauthorized: Count::new(),
         }
     }
 
@@ -55,6 +59,7 @@ impl Answers {
         match answer {
             Answer::Socket(_) => &self.sockets,
             Answer::Page => &self.pages,
+            Answer::Script => &self.scripts,
             Answer::Health => &self.health,
             Answer::Metrics => &self.metrics,
             Answer::BadRequest => &self.bad_requests,
@@ -70,6 +75,7 @@ impl Answers {
             Answer::Full => &self.full,
             Answer::Crowded => &self.crowded,
             Answer::Hasty => &self.hasty,
+            Answer::Unauthorized(_) => &self.unauthorized,
         }
     }
 
@@ -77,6 +83,7 @@ impl Answers {
         AnswersTold {
             sockets: self.sockets.get(),
             pages: self.pages.get(),
+            scripts: self.scripts.get(),
             health: self.health.get(),
             metrics: self.metrics.get(),
             bad_requests: self.bad_requests.get(),
@@ -92,6 +99,7 @@ impl Answers {
             full: self.full.get(),
             crowded: self.crowded.get(),
             hasty: self.hasty.get(),
+            unauthorized: self.unauthorized.get(),
         }
     }
 }
@@ -105,6 +113,7 @@ pub(crate) struct Ends {
     policy: Count,
     size: Count,
     error: Count,
+    unauthorized: Count,
     client: Count,
     stream: Count,
 }
@@ -118,6 +127,7 @@ impl Ends {
             policy: Count::new(),
             size: Count::new(),
             error: Count::new(),
+            unauthorized: Count::new(),
             client: Count::new(),
             stream: Count::new(),
         }
@@ -132,6 +142,7 @@ impl Ends {
             Ended::Policy => &self.policy,
             Ended::Size => &self.size,
             Ended::Error => &self.error,
+            Ended::Unauthorized => &self.unauthorized,
             Ended::Client => &self.client,
             Ended::Stream => &self.stream,
         }
@@ -145,6 +156,7 @@ impl Ends {
             policy: self.policy.get(),
             size: self.size.get(),
             error: self.error.get(),
+            unauthorized: self.unauthorized.get(),
             client: self.client.get(),
             stream: self.stream.get(),
         }

@@ -64,6 +64,7 @@ fn requests_text(alloc: Global, text: &mut String, answers: &AnswersTold) -> Res
         &[
             ("socket", answers.sockets),
             ("page", answers.pages),
+            ("script", answers.scripts),
             ("health", answers.health),
             ("metrics", answers.metrics),
             ("bad_request", answers.bad_requests),
@@ -79,6 +80,7 @@ fn requests_text(alloc: Global, text: &mut String, answers: &AnswersTold) -> Res
             ("full", answers.full),
             ("crowded", answers.crowded),
             ("hasty", answers.hasty),
+            ("unauthorized", answers.unauthorized),
         ],
     )
 }
@@ -99,6 +101,7 @@ fn ends_text(alloc: Global, text: &mut String, ends: &EndsTold) -> Result<(), Al
             ("1008", ends.policy),
             ("1009", ends.size),
             ("1011", ends.error),
+            ("3000", ends.unauthorized),
             ("client", ends.client),
             ("stream", ends.stream),
         ],

@@ -6,6 +6,7 @@ use serve_ports::Tally;
 pub struct AnswersTold {
     pub sockets: u64,
     pub pages: u64,
+    pub scripts: u64,
     pub health: u64,
     pub metrics: u64,
     pub bad_requests: u64,
@@ -21,6 +22,7 @@ pub struct AnswersTold {
     pub full: u64,
     pub crowded: u64,
     pub hasty: u64,
+    pub unauthorized: u64,
 }
 
 /// How many sessions ended by each code of a close frame, and without one.
@@ -32,6 +34,7 @@ pub struct EndsTold {
     pub policy: u64,
     pub size: u64,
     pub error: u64,
+    pub unauthorized: u64,
     pub client: u64,
     pub stream: u64,
 }

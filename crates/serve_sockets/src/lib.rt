@@ -10,6 +10,7 @@
 #![tactic(auto)]
 
 mod buffer;
+mod carrying;
 mod sending;
 mod stream;
 pub mod stream_laws;
@@ -18,6 +19,7 @@ mod web_socket;
 pub mod web_socket_laws;
 
 pub use buffer::KEPT_BYTES;
+pub use carrying::CarriesToken;
 pub use sending::{is_passing, queue_all, send_all};
 pub use stream::{ClientSocket, ClientStream, LONG_TURN_BYTES, PACE_BYTES, TURN_BYTES};
 pub use tally::{Ticket, TicketCount};

@@ -1,9 +1,10 @@
 //! A client's stream.
-ghost use Rattle.std.specs.Prelude.{◌≡◌, ◌≤◌, cond, true, false, None, IfOk};
+ghost use Rattle.std.specs.Prelude.{◌≡◌, ◌≤◌, cond, true, false, None, Some, IfOk};
 ghost use Rattle.serve_sockets.specs.Budget.{IsTurn, Spends};
 ghost use Rattle.serve_sockets.specs.Stalls.{Takes, keeps_pace as keeps_pace_in, noted_at as noted_at_in};
 ghost use Rattle.serve_sockets.specs.declared.stream.TheConstants.{LONG_TURN_BYTES, TURN_BYTES};
 
+use crate::carrying::CarriesToken;
 use crate::tally::Ticket;
 use std::cell::Cell;
 use std::io;
@@ -74,6 +75,8 @@ pub struct ClientStream<S> {
     place: Option<Ticket>,
     /// Among those that wait for a worker, until one reads it.
     waiting: Option<Ticket>,
+    /// The token that its client has shown.
+    token: Option<Vec<u8>>,
     ghost bounded: { left ≤ LONG_TURN_BYTES },
 }
 
@@ -97,11 +100,13 @@ impl<S: Drop> Drop for ClientStream<S> {
             neighbour,
             place,
             waiting,
+            token,
         } = self;
         drop(stream);
         drop(neighbour);
         drop(place);
         drop(waiting);
+        drop(token);
     }
 }
 
@@ -160,6 +165,7 @@ impl<S> ClientStream<S> {
             neighbour: None,
             place: None,
             waiting: None,
+            token: None,
         }
     }
 
@@ -203,6 +209,15 @@ impl<S> ClientStream<S> {
         ensures left { self.new.left ≡ self.old.left }
     {
         self.place = Some(ticket);
+    }
+
+    /// It carries this token, which its client has shown.
+    pub fn show(&mut self, token: Vec<u8>)
+        ensures token { self.new.token ≡ Some token }
+        ensures stream { self.new.stream ≡ self.old.stream }
+        ensures left { self.new.left ≡ self.old.left }
+    {
+        self.token = Some(token);
     }
 
     /// It is counted among those that wait for a worker until the next read.
@@ -282,6 +297,19 @@ impl<S> ClientStream<S> {
         ensures { self.now.blocked ≡ true → result ≡ false }
     {
         !self.blocked && self.stalled.replace(None).is_some()
+    }
+}
+
+impl<S> CarriesToken for ClientStream<S> {
+    ghost use Rattle.std.specs.Prelude.{option_map};
+
+    ghost carried = { λ s. option_map (λ v. v.items) s.token };
+
+    fn token(&self) -> Option<&[u8]> {
+        match &self.token {
+            Some(token) => Some(token.as_slice()),
+            None => None,
+        }
     }
 }
 

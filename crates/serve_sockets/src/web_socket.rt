@@ -12,6 +12,7 @@ ghost use Rattle.serve_sockets.specs.Kept.{HasNoRoom, IsKept};
 ghost use Rattle.serve_sockets.specs.declared.buffer.TheConstants.{KEPT_BYTES};
 
 use crate::buffer::give_back;
+use crate::carrying::CarriesToken;
 use std::alloc::{AllocError, Global};
 use std::io;
 use std::io::{ErrorKind, Read, Write};
@@ -92,6 +93,17 @@ fn frame_bytes(bytes: Option<&[u8]>) -> usize {
     match FrameHeader::parse(bytes) {
         Ok(Some((header, size))) => header.len(size).saturating_add(size as usize),
         Ok(None) | Err(_) => bytes.len(),
+    }
+}
+
+impl<S: CarriesToken, K> WebSocket<S, K> {
+    ghost use Rattle.std.specs.Prelude.{◌≡◌, option_map};
+
+    /// The token that the stream carries.
+    pub fn token(&self) -> Option<&[u8]>
+        ensures { option_map (λ v. v.now) result ≡ S.carried self.now.stream }
+    {
+        self.stream.token()
     }
 }
 

@@ -7,7 +7,7 @@ use Rattle.presence_journal.specs.declared.rows.Item.{Item}
 use Rattle.presence_journal.specs.declared.step.Step.{Step}
 use Rattle.presence_journal.specs.declared.step.Step.TheVariants as steps_are
 use Rattle.presence_journal.specs.History.{History, Begin, Then, is_full}
-use Rattle.presence_journal.specs.Queue.{Waiting, Behind, Queued, topic_of, queue, queue_after, queued, taken, took, made_for, push_items, left_by, listed_for, items_given, most_waiting}
+use Rattle.presence_journal.specs.Queue.{Waiting, Behind, Queued, is_current, first_waiting, topic_of, queue, queue_after, queued, taken, took, made_for, push_items, left_by, listed_for, items_given, most_waiting}
 use Rattle.presence_journal.specs.Table.{next_entry, after, outcome_of, for_present, take_outcome}
 use Rattle.presence_journal.proofs.HistoryLemmas.{after-accepted}
 use Rattle.presence_journal.proofs.Topics.{topic_of-then, queue-then}
@@ -48,9 +48,13 @@ after_short (steps_are.Subscribe t) number n new w h = either_short (nat_eq numb
 after_short (steps_are.Take m max) number n new w h = either_short (nat_eq m n) (left_by max w) (push_items w new) (left_short max w h) (push_short w new)
 after_short _ number n new w h = push_short w new
 
+short_first : (b : Bool) → IsShort (first_waiting b)
+short_first true = omega arith
+short_first false = tt
+
 queue_short : (h : History) (n : ℕ) → IsShort (queue h n)
 unfolding queue
-queue_short (Begin s) n = tt
+queue_short (Begin s) n = short_first (is_current s.current n)
 queue_short (Then h e) n = after_short e.step e.number n (made_for h e (topic_of h n)) (queue h n) (queue_short h n)
 
 none_left : (w : Waiting) → IsShort w → left_by 256 w ≡ Queued []

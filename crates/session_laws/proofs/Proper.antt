@@ -15,7 +15,7 @@ use Rattle.presence_journal.specs.declared.step.Step.{Step}
 use Rattle.presence_journal.specs.declared.entry.Entry.{Entry}
 use Rattle.presence_journal.specs.History.{History, Begin, Then, shown}
 use Rattle.presence_journal.specs.Present.{RowMap, in_order, present, listed, missing_in, changes}
-use Rattle.presence_journal.specs.Queue.{Waiting, Behind, Queued, is_empty, diff_item, shout_item, diff_of, items_made, most_waiting, push_items, queued, left_by, queue, queue_after, made_for, topic_of, listed_for, took, taken, taken_after}
+use Rattle.presence_journal.specs.Queue.{Waiting, Behind, Queued, topic_at, is_current, first_waiting, first_taken, is_empty, diff_item, shout_item, diff_of, items_made, most_waiting, push_items, queued, left_by, queue, queue_after, made_for, topic_of, listed_for, took, taken, taken_after}
 use Rattle.presence_journal.specs.Table.{IsLegal}
 use Rattle.presence_journal.proofs.FoldPresent.{presence}
 use Rattle.presence_journal.proofs.FoldTables.{Placed, AreOf, stripped, entries_found}
@@ -135,9 +135,13 @@ queue_after_proper (steps_are.Subscribe t) number n new w a p = either WaitsProp
 queue_after_proper (steps_are.Take m max) number n new w a p = either WaitsProper (nat_eq m n) (left_by max w) (push_items w new) (left_proper max w p) (push_proper w new p a)
 queue_after_proper _ number n new w a p = push_proper w new p a
 
+first_proper : (b : Bool) → WaitsProper (first_waiting b)
+first_proper true = tt
+first_proper false = tt
+
 pub queue_proper : (h : History) (n : ℕ) → IsLegal h → WaitsProper (queue h n)
 unfolding queue
-queue_proper (Begin s) n l = tt
+queue_proper (Begin s) n l = first_proper (is_current s.current n)
 queue_proper (Then h e) n l = queue_after_proper e.step e.number n (made_for h e (topic_of h n)) (queue h n) (made_proper h e (topic_of h n) l) (queue_proper h n l.0)
 
 -- ---- what was taken
@@ -158,9 +162,13 @@ taken_after_proper (steps_are.Take m max) n rows w before d p b = go (nat_eq m n
     go false = b
 taken_after_proper _ n rows w before d p b = b
 
+first_taken_proper : (b : Bool) (rows : List (Dot × Row)) → AllDots rows → AllProper (first_taken b rows)
+first_taken_proper true rows d = (d, tt)
+first_taken_proper false rows d = tt
+
 pub taken_proper : (h : History) (n : ℕ) → IsLegal h → AllProper (taken h n)
 unfolding taken
-taken_proper (Begin s) n l = tt
+taken_proper (Begin s) n l = first_taken_proper (is_current s.current n) (listed_for (Begin s) (topic_at s.subscribers n)) (rows_for_dots (Begin s) (topic_at s.subscribers n) l)
 taken_proper (Then h e) n l = taken_after_proper e.step n (listed_for h (topic_of h n)) (queue h n) (taken h n) (rows_for_dots h (topic_of h n) l.0) (queue_proper h n l.0) (taken_proper h n l.0)
 
 -- ---- a state first
@@ -199,9 +207,13 @@ state_after (steps_are.Take m max) number n new w rows before h = go (nat_eq m n
     go false = state_pushed before w new h
 state_after _ number n new w rows before h = state_pushed before w new h
 
+first_state : (b : Bool) (rows : List (Dot × Row)) → HasState (first_taken b rows) (first_waiting b)
+first_state true rows = tt
+first_state false rows = tt
+
 has_state : (h : History) (n : ℕ) → HasState (taken h n) (queue h n)
 unfolding taken queue
-has_state (Begin s) n = tt
+has_state (Begin s) n = first_state (is_current s.current n) (listed_for (Begin s) (topic_at s.subscribers n))
 has_state (Then h e) n = state_after e.step e.number n (made_for h e (topic_of h n)) (queue h n) (listed_for h (topic_of h n)) (taken h n) (has_state h n)
 
 pub state_first : (h : History) (n : ℕ) (q : List Item) → queue h n ≡ Queued q → StateFirst (taken h n)

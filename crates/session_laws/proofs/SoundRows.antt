@@ -19,7 +19,7 @@ use Rattle.presence_journal.specs.declared.entry.Outcome.TheVariants as outcomes
 use Rattle.presence_journal.specs.declared.entry.Entry.{Entry}
 use Rattle.presence_journal.specs.History.{History, Begin, Then, row_made, row_added, hears, told_row, first_some, row, with_prev, row_again, row_brought}
 use Rattle.presence_journal.specs.Present.{RowMap, in_order, present, listed, missing_in, changes}
-use Rattle.presence_journal.specs.Queue.{Waiting, Behind, Queued, is_empty, diff_item, shout_item, diff_of, items_made, most_waiting, push_items, queued, left_by, queue, queue_after, made_for, topic_of, listed_for, given, items_given}
+use Rattle.presence_journal.specs.Queue.{Waiting, Behind, Queued, is_current, first_waiting, is_empty, diff_item, shout_item, diff_of, items_made, most_waiting, push_items, queued, left_by, queue, queue_after, made_for, topic_of, listed_for, given, items_given}
 use Rattle.presence_journal.specs.Table.{has_key, listed_key}
 use Rattle.presence_journal.proofs.FoldPresent.{presence}
 use Rattle.presence_journal.proofs.FoldTables.{Placed, AreOf, stripped, entries_found}
@@ -239,9 +239,13 @@ queue_after_sound (steps_are.Subscribe t) number n new w a p = either_sound (nat
 queue_after_sound (steps_are.Take m max) number n new w a p = either_sound (nat_eq m n) (left_by max w) (push_items w new) (left_sound max w p) (push_sound w new p a)
 queue_after_sound _ number n new w a p = push_sound w new p a
 
+first_waiting_sound : (b : Bool) → WaitsSound (first_waiting b)
+first_waiting_sound true = tt
+first_waiting_sound false = tt
+
 queue_sound : (h : History) (n : ℕ) → HistorySound h → WaitsSound (queue h n)
 unfolding queue
-queue_sound (Begin s) n k = tt
+queue_sound (Begin s) n k = first_waiting_sound (is_current s.current n)
 queue_sound (Then h e) n k = queue_after_sound e.step e.number n (made_for h e (topic_of h n)) (queue h n) (items_sound h e (topic_of h n) k) (queue_sound h n k.0)
 
 -- ---- what a take gives

@@ -10,7 +10,7 @@ use Rattle.presence_journal.specs.declared.rows.Item.{Item}
 use Rattle.presence_journal.specs.declared.step.Step.{Step}
 use Rattle.presence_journal.specs.declared.step.Step.TheVariants as steps_are
 use Rattle.presence_journal.specs.History.{History, Begin, Then}
-use Rattle.presence_journal.specs.Queue.{Waiting, queue, topic_of, listed_for, given}
+use Rattle.presence_journal.specs.Queue.{Waiting, topic_at, is_current, first_taken, queue, topic_of, listed_for, given}
 use Rattle.presence_metas.specs.Fold.{meta_at, after_frame}
 use Rattle.presence_metas.specs.Frames.{frame_in}
 use Rattle.presence_metas.specs.Listing.{Listing}
@@ -43,9 +43,10 @@ abbrev pub given_after : Step → ℕ → List (Dot × Row) → Waiting → List
 given_after (steps_are.Take m max) n rows w before = cond (nat_eq m n) (before ++ given rows max w) before
 given_after _ n rows w before = before
 
--- all that a subscriber was ever given, the oldest first
+-- all that a subscriber was ever given, the oldest first; one that a Start counts as current has the state of the Start's rows
+-- in place of all that it was given before
 unfoldable pub given_to : History → ℕ → List Item
-given_to (Begin s) n = []
+given_to (Begin s) n = first_taken (is_current s.current n) (listed_for (Begin s) (topic_at s.subscribers n))
 given_to (Then h e) n = given_after e.step n (listed_for h (topic_of h n)) (queue h n) (given_to h n)
 
 -- what a call gives the subscriber of this number

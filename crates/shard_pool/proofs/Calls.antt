@@ -1,11 +1,13 @@
 -- A call behind a lock, as it is seen once the lock is let go.
-use Rattle.std.proofs.Common.{arith, ◌≡◌, ◌≤◌, ◌<◌, ◌-◌, ◌^◌, inl, inr, ℕ, Bool, List, Some, None, Option, true, false, refl, sym, ap, subst}
+use Rattle.std.proofs.Common.{arith, ◌≡◌, ◌≤◌, ◌<◌, ◌-◌, ◌^◌, inl, inr, ℕ, Bool, List, [], ◌∷◌, Some, None, Option, true, false, refl, sym, ◌∙◌, ap, subst}
 use Rattle.std.specs.Prelude.{min, Result, Ok, Err, IfOk, OnOk, OnErr, Vec}
 use Rattle.presence_base.specs.declared.dots.Dot.{Dot}
 use Rattle.presence_journal.specs.declared.step.Step.{Step}
 use Rattle.presence_journal.specs.declared.step.Step.TheVariants as steps_are
 use Rattle.presence_journal.specs.History.{History, own, entry_count, is_full}
+use Rattle.presence_journal.specs.Queue.{CurrentStay, AllAreBehind}
 use Rattle.presence_journal.specs.Table.{IsLegal, outcome_of}
+use Rattle.presence_journal.proofs.Topics.{queues_stay}
 use Rattle.tracker_feeds.specs.Quiet.{TellsQuiet}
 use Rattle.tracker_shard.specs.declared.fault.ShardFault.{ShardFault}
 use Rattle.tracker_shard.specs.declared.fault.ShardFault.TheVariants.{AlreadyTracked, NoPresence, ClockFull, JournalFull, NoSub, BadIncarnation, OutOfMemory}
@@ -48,8 +50,8 @@ pub is_done : {A : Type 0} (Here : History → Type 0) (there : History → Bool
 is_done Here there lent left step Gives r m =
     record { history = m.history; legal = m.legal; here = m.here; is = record { left = left; step = m.made; answer = m.answer; due = m.due } }
 
-pub is_checkpointed : (h left : History) (r : Result Unit ShardFault) → OnOk r (IsBegunAgain h left) → OnErr r (left ≡ h) → IsDue r (checkpoint_refusal h) → RefusesForRoom r → IsCheckpointed h r
-is_checkpointed h left r again same due room = record { left = left; again = again; same = same; due = due; room = room }
+pub is_checkpointed : (h left : History) (r : Result Unit ShardFault) → OnOk r (IsBegunAgain h left) → OnOk r (AllAreBehind left) → OnErr r (left ≡ h) → IsDue r (checkpoint_refusal h) → RefusesForRoom r → IsCheckpointed h r
+is_checkpointed h left r again behind same due room = record { left = left; again = again; behind = behind; same = same; due = due; room = room }
 
 pub ruleset unseated = (is_behind_lane, is_done, is_checkpointed)
 
@@ -68,16 +70,16 @@ room_of BadIncarnation d = d
 room_of OutOfMemory d = d
 
 pub too_few : (h : History) (due : DueFrom) → TellsMany due h false → IsMadeWhereQuiet due h (Ok false)
-too_few h due few = record { left = h; leaves = refl; told = inl few; asked = tt; full = λ e. absurd (cc); room = tt }
+too_few h due few = record { left = h; leaves = refl; queues = λ n t e. refl; told = inl few; asked = tt; full = λ e. absurd (cc); room = tt }
 
 pub not_quiet : (h : History) (due : DueFrom) → TellsQuiet h false → IsMadeWhereQuiet due h (Ok false)
-not_quiet h due busy = record { left = h; leaves = refl; told = inr busy; asked = tt; full = λ e. absurd (cc); room = tt }
+not_quiet h due busy = record { left = h; leaves = refl; queues = λ n t e. refl; told = inr busy; asked = tt; full = λ e. absurd (cc); room = tt }
 
 pub no_look : (h : History) (due : DueFrom) → HasMany due h → IsMadeWhereQuiet due h (Err OutOfMemory)
-no_look h due many = record { left = h; leaves = refl; told = tt; asked = many; full = λ e. absurd (cc); room = tt }
+no_look h due many = record { left = h; leaves = refl; queues = tt; told = tt; asked = many; full = λ e. absurd (cc); room = tt }
 
-pub made_quiet : (h left : History) (due : DueFrom) → HasMany due h → TellsQuiet h true → IsBegunAgain h left → IsMadeWhereQuiet due h (Ok true)
-made_quiet h left due many quiet again = record { left = left; leaves = again; told = (many, quiet); asked = tt; full = λ e. absurd (cc); room = tt }
+pub made_quiet : (h left : History) (due : DueFrom) → HasMany due h → TellsQuiet h true → IsBegunAgain h left → CurrentStay h left → IsMadeWhereQuiet due h (Ok true)
+made_quiet h left due many quiet again stay = record { left = left; leaves = again; queues = queues_stay h left quiet stay; told = (many, quiet); asked = tt; full = λ e. absurd (cc); room = tt }
 
 full_due : (r : Result Unit ShardFault) (stands : Option ShardFault) → IsDue r stands → r ≡ Err JournalFull → stands ≡ Some JournalFull
 full_due (Ok x) stands d e = absurd (cc)
@@ -93,7 +95,7 @@ pub refused_quiet : (h left : History) (due : DueFrom) (r : Result Unit ShardFau
 refused_quiet h left due (Ok x) f many e same d room = absurd (cc)
 refused_quiet h left due (Err g) f many e same d room =
     let is : g ≡ f = cc in
-    subst (λ k. IsMadeWhereQuiet due h (Err k)) is (record { left = left; leaves = same; told = tt; asked = many; full = λ p. full_due (Err g) (checkpoint_refusal h) d (let q : g ≡ JournalFull = cc in ap Err q); room = room_of g room })
+    subst (λ k. IsMadeWhereQuiet due h (Err k)) is (record { left = left; leaves = same; queues = tt; told = tt; asked = many; full = λ p. full_due (Err g) (checkpoint_refusal h) d (let q : g ≡ JournalFull = cc in ap Err q); room = room_of g room })
 
 pub ruleset where_quiet = (is_behind_lane, too_few, not_quiet, no_look, made_quiet, refused_quiet)
 

@@ -4,6 +4,7 @@ use Rattle.std.proofs.lemmas.Bool.{false≢true}
 use Rattle.std.specs.Prelude.{Result, Ok, Err}
 use Rattle.presence_journal.specs.declared.step.Step.{Step}
 use Rattle.presence_journal.specs.History.{History, own}
+use Rattle.presence_journal.specs.Queue.{AllAreBehind}
 use Rattle.presence_journal.specs.Table.{IsLegal, outcome_of}
 use Rattle.tracker_shard.specs.declared.fault.ShardFault.{ShardFault}
 use Rattle.tracker_shard.specs.declared.fault.ShardFault.TheVariants.{AlreadyTracked, NoPresence, ClockFull, JournalFull, NoSub, BadIncarnation, OutOfMemory}
@@ -59,14 +60,14 @@ module _ (node : List ℕ) (Begins : History → Type 0) (there : History → Bo
 
   -- the second stands, behind a checkpoint
   pub called_again : {A B : Type 0} (Gives : History → A → Type 0) (h left begun new : History) (old mid part : Hand) (r : Result B ShardFault) (again : Result (Reply A) ShardFault)
-      → lacks_room r ≡ true → Stepped h left (Some old.seat) step r → Notes h old mid step r → IsBegunAgain left begun
+      → lacks_room r ≡ true → Stepped h left (Some old.seat) step r → Notes h old mid step r → IsBegunAgain left begun → AllAreBehind begun
       → IsLegal begun → (own begun).name ≡ node → IsOfLane Begins begun → Stepped begun new (Some mid.seat) step again → Notes begun mid part step again → Replies mid.shard begun step (Gives begun) again → IsDue again (refusal (there begun) begun step)
       → CalledFrom (IsOfShard node Begins) there h new old part step Gives again
-  called_again Gives h left begun new old mid part r again lack first noted begins legal of_node of_lane made notes answer due =
+  called_again Gives h left begun new old mid part r again lack first noted begins behind legal of_node of_lane made notes answer due =
       let same : mid ≡ old = lacks_no_note h old mid step r lack noted in
       record {
         history = begun;
-        from = inr (subst (λ (k : History). IsBegunAgain k begun) (lacks_no_step h left (Some old.seat) step r lack first) begins);
+        from = inr (subst (λ (k : History). IsBegunAgain k begun) (lacks_no_step h left (Some old.seat) step r lack first) begins, behind);
         legal = legal;
         here = is_here begun of_node of_lane;
         made = subst (λ (x : Hand). Stepped begun new (Some x.seat) step again) same made;
@@ -82,13 +83,13 @@ module _ (node : List ℕ) (Begins : History → Type 0) (there : History → Bo
       record { history = h; from = inl refl; legal = legal; here = is_here h of_node of_lane; made = subst (λ (k : History). Stepped h k None step r) (sym same) made; answer = answer; due = due }
 
   pub made_again : {A B : Type 0} (Gives : History → A → Type 0) (h left begun new : History) (r : Result B ShardFault) (again : Result A ShardFault)
-      → lacks_room r ≡ true → Stepped h left None step r → IsBegunAgain left begun
+      → lacks_room r ≡ true → Stepped h left None step r → IsBegunAgain left begun → AllAreBehind begun
       → IsLegal begun → (own begun).name ≡ node → IsOfLane Begins begun → Stepped begun new None step again → Answers (Gives begun) (outcome_of begun step) again → IsDue again (refusal (there begun) begun step)
       → MadeFrom (IsOfShard node Begins) there h new step Gives again
-  made_again Gives h left begun new r again lack first begins legal of_node of_lane made answer due =
+  made_again Gives h left begun new r again lack first begins behind legal of_node of_lane made answer due =
       record {
         history = begun;
-        from = inr (subst (λ (k : History). IsBegunAgain k begun) (lacks_no_step h left None step r lack first) begins);
+        from = inr (subst (λ (k : History). IsBegunAgain k begun) (lacks_no_step h left None step r lack first) begins, behind);
         legal = legal;
         here = is_here begun of_node of_lane;
         made = made;

@@ -4,6 +4,7 @@ use Rattle.presence_base.specs.declared.dots.Dot.{Dot}
 use Rattle.presence_journal.specs.declared.step.Step.{Step}
 use Rattle.presence_journal.specs.declared.entry.Outcome.{Outcome}
 use Rattle.presence_journal.specs.History.{History, last_number}
+use Rattle.presence_journal.specs.Queue.{AllAreBehind}
 use Rattle.presence_journal.specs.Table.{IsLegal, outcome_of}
 use Rattle.tracker_shard.specs.declared.fault.ShardFault.{ShardFault}
 use Rattle.tracker_shard.specs.declared.fault.ShardFault.TheVariants.{AlreadyTracked, NoPresence, ClockFull, JournalFull, NoSub, BadIncarnation, OutOfMemory}
@@ -69,9 +70,9 @@ is_lack lacks.Nothing = false
 is_lack lacks.Room = true
 is_lack lacks.Memory = true
 
--- the shard's history as it was lent, or as a checkpoint began it again
+-- the shard's history as it was lent, or as a checkpoint began it again, with each subscriber behind
 abbrev pub IsOrBegins : History → History → Type 0
-IsOrBegins lent h = (h ≡ lent) ⊎ IsBegunAgain lent h
+IsOrBegins lent h = (h ≡ lent) ⊎ (IsBegunAgain lent h × AllAreBehind h)
 
 -- What a call left that makes room, where it lacks some, by one checkpoint, and is made again then: the step was made at the end
 -- of the history as it was lent, or as it was begun again, the part has the receipt of a step that was made, the answer is the

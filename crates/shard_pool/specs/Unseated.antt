@@ -5,6 +5,7 @@ use Rattle.delta_range.specs.Deltas.{DeltaValue}
 use Rattle.presence_journal.specs.declared.step.Step.{Step}
 use Rattle.presence_journal.specs.declared.step.Step.TheVariants as steps_are
 use Rattle.presence_journal.specs.History.{History, own}
+use Rattle.presence_journal.specs.Queue.{QueuesStay, AllAreBehind}
 use Rattle.presence_journal.specs.Table.{IsLegal, outcome_of}
 use Rattle.presence_journal_cuts.specs.Cuts.{IsCut}
 use Rattle.tracker_feeds.specs.Quiet.{IsQuiet, IsBusy}
@@ -67,11 +68,12 @@ pub record IsRebornMade (h : History) (incarnation : ℕ) (r : Result (List (Dot
 abbrev pub IsCutMade : History → Result DeltaValue ShardFault → Type 0
 IsCutMade h r = IsMadeWith (IsCut h) h steps_are.Cut r
 
--- A Start that stands for the journal is put in its place, or it stays as it is where that is refused, at most for want
--- of room.
+-- A Start that stands for the journal is put in its place, and each subscriber is behind; or it stays as it is where that is
+-- refused, at most for want of room.
 pub record IsCheckpointed (h : History) (r : Result Unit ShardFault) : Type 0 where
   pub left : History
   pub again : OnOk r (IsBegunAgain h left)
+  pub behind : OnOk r (AllAreBehind left)
   pub same : OnErr r (left ≡ h)
   pub due : IsDue r (checkpoint_refusal h)
   pub room : RefusesForRoom r
@@ -87,11 +89,12 @@ abbrev pub TellsDue : DueFrom → History → Bool → Type 0
 TellsDue due h true = HasMany due h × IsQuiet h
 TellsDue due h false = TellsMany due h false ⊎ IsBusy h
 
--- A checkpoint is made where the journal is due and no item waits for anybody, and only there. Memory may be wanting for
--- that look too.
+-- A checkpoint is made where the journal is due and no item waits for anybody, and only there, and nobody feels it. Memory
+-- may be wanting for that look too.
 pub record IsMadeWhereQuiet (due : DueFrom) (h : History) (r : Result Bool ShardFault) : Type 0 where
   pub left : History
   pub leaves : Leaves h left r
+  pub queues : IfOk r (λ made. QueuesStay h left)
   pub told : IfOk r (TellsDue due h)
   pub asked : OnErr r (HasMany due h)
   pub full : r ≡ Err JournalFull → checkpoint_refusal h ≡ Some JournalFull

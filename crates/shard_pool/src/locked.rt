@@ -3,6 +3,7 @@ ghost use Rattle.std.specs.Prelude.{◌≡◌, ◌+◌, ◌-◌, ◌≤◌, ◌^
 ghost use Rattle.presence_base.specs.Refs.{IsCount};
 ghost use Rattle.presence_journal.specs.History.{begun, own, entry_count, is_full, last_number};
 ghost use Rattle.presence_journal.specs.KeptBytes.{kept_bytes};
+ghost use Rattle.presence_journal.specs.Queue.{CurrentStay, AllAreBehind};
 ghost use Rattle.presence_journal.specs.StepLimits.{is_within_limits};
 ghost use Rattle.presence_journal.specs.Table.{IsLegal, outcome_of};
 ghost use Rattle.tracker_feeds.specs.Quiet.{TellsQuiet};
@@ -169,6 +170,7 @@ impl<L: Lane> Locked<L> {
     #[tactic(auto, using(crate::proofs::Counts::counts))]
     pub fn checkpoint(&mut self, alloc: Global) -> Result<(), ShardFault>
         ensures ok { OnOk result (IsBegunAgain self.old.shard self.new.shard) }
+        ensures behind { OnOk result (AllAreBehind self.new.shard) }
         ensures err { OnErr result (self.new.shard ≡ self.old.shard) }
         ensures due { IsDue result (checkpoint_refusal self.old.shard) }
         ensures room { RefusesForRoom result }
@@ -176,6 +178,22 @@ impl<L: Lane> Locked<L> {
     {
         let made = self.shard.checkpoint(alloc);
         // The journal's room went with it. Where memory is refused the new one takes more as it grows.
+        let _reserved = self.shard.reserve();
+        made
+    }
+
+    /// The same, with the subscribers for which nothing waits left as they are, as its namesake does. It
+    /// is no step.
+    #[tactic(auto, using(crate::proofs::Counts::counts))]
+    pub fn checkpoint_keeping_current(&mut self, alloc: Global) -> Result<(), ShardFault>
+        ensures ok { OnOk result (IsBegunAgain self.old.shard self.new.shard) }
+        ensures current { OnOk result (CurrentStay self.old.shard self.new.shard) }
+        ensures err { OnErr result (self.new.shard ≡ self.old.shard) }
+        ensures due { IsDue result (checkpoint_refusal self.old.shard) }
+        ensures room { RefusesForRoom result }
+        ensures total { self.new.calls.total ≡ self.old.calls.total }
+    {
+        let made = self.shard.checkpoint_keeping_current(alloc);
         let _reserved = self.shard.reserve();
         made
     }
@@ -196,6 +214,7 @@ impl<L: Lane> Locked<L> {
     pub fn makes_room<A: Drop>(&mut self, alloc: Global, answer: &Result<A, ShardFault>) -> bool
         ensures lack { result ≡ true → lacks_room answer.now ≡ true }
         ensures begun { result ≡ true → IsBegunAgain self.old.shard self.new.shard }
+        ensures behind { result ≡ true → AllAreBehind self.new.shard }
         ensures same { result ≡ false → self.new.shard ≡ self.old.shard }
         ensures total { self.new.calls.total ≡ self.old.calls.total }
     {
@@ -212,6 +231,7 @@ impl<L: Lane> Locked<L> {
     // Begins a journal of some length again, if none was that gave no memory since a call found some.
     fn gives_memory(&mut self, alloc: Global) -> bool
         ensures begun { result ≡ true → IsBegunAgain self.old.shard self.new.shard }
+        ensures behind { result ≡ true → AllAreBehind self.new.shard }
         ensures same { result ≡ false → self.new.shard ≡ self.old.shard }
         ensures total { self.new.calls.total ≡ self.old.calls.total }
     {

@@ -57,7 +57,8 @@ pub fn locked_checkpoint<L: Lane, R: Wait>(
 }
 
 /// Puts a Start that stands for the journal in its place where the journal is due once the lock is had, and no item waits
-/// for a subscriber that isn't behind. `Ok(false)` means that it isn't so, and that nothing changed.
+/// for a subscriber that isn't behind. What waits for each subscriber is then as it was. `Ok(false)` means that it isn't so,
+/// and that nothing changed.
 #[tactic(auto, using(crate::proofs::Calls::where_quiet))]
 pub fn locked_checkpoint_where_quiet<L: Lane, R: Wait>(
     rt: &R,
@@ -75,7 +76,7 @@ pub fn locked_checkpoint_where_quiet<L: Lane, R: Wait>(
     if !guard.is_quiet(alloc)? {
         return Ok(false);
     }
-    guard.checkpoint(alloc)?;
+    guard.checkpoint_keeping_current(alloc)?;
     Ok(true)
 }
 

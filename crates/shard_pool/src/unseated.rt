@@ -333,8 +333,9 @@ impl<G: Gate, L: Lanes> Pool<G, L> {
     }
 
     /// Makes a checkpoint of a shard where its journal is due once its lock is had, and no item waits for a subscriber that
-    /// isn't behind, so that none loses one. `Ok(false)` means that it isn't so, and that nothing changed;
-    /// that costs a look at each subscriber, under the shard's lock.
+    /// isn't behind, so that none loses one. What waits for each is then what it was: nobody is owed a state by it.
+    /// `Ok(false)` means that it isn't so, and that nothing changed; that costs a look at each subscriber, under the shard's
+    /// lock.
     #[tactic(auto, using(crate::proofs::AtNumber::lanes))]
     pub fn checkpoint_where_quiet<R: Wait>(
         &self,

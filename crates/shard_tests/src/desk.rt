@@ -43,6 +43,7 @@ pub(crate) enum Ask {
     // The same: its ranges, and how many rows it has.
     ToldSize(u64),
     Checkpoint,
+    CheckpointKeepingCurrent,
     Merge(Telling),
     Heard(&'static str, u64),
     Tick(u64),
@@ -405,6 +406,7 @@ fn note(alloc: Global, shard: &mut Shard, ask: Ask) -> Result<String, AllocError
         Ask::ToldFrom(count) => told_from(alloc, shard, count),
         Ask::ToldSize(count) => told_size(alloc, shard, count),
         Ask::Checkpoint => done(alloc, shard.checkpoint(alloc)),
+        Ask::CheckpointKeepingCurrent => done(alloc, shard.checkpoint_keeping_current(alloc)),
         Ask::Merge(telling) => merge(alloc, shard, &telling),
         Ask::Heard(name, now) => {
             let replica = replica(alloc, name)?;

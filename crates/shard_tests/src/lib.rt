@@ -5,6 +5,8 @@
 #[cfg(test)]
 mod calls;
 #[cfg(test)]
+mod current;
+#[cfg(test)]
 mod cuts;
 #[cfg(test)]
 mod desk;

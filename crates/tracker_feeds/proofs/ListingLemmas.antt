@@ -7,18 +7,19 @@ use Rattle.std.specs.Map.{lookup, keys_of}
 use Rattle.std.specs.Ordering.{is_eq, nat_cmp}
 use Rattle.std.specs.Cmp.{unsigned_tied}
 use Rattle.std.specs.declared.cmp.Ordering.TheVariants.{Less}
-use Rattle.std.proofs.lemmas.Bool.{and_parts, eq-eqb, le-leb}
+use Rattle.std.proofs.lemmas.Bool.{and_parts, eq-eqb, eqb-true, le-leb}
 use Rattle.std.proofs.lemmas.List.{append_assoc}
 use Rattle.std.proofs.lemmas.List.Folds.{list_all-append}
 use Rattle.std.proofs.lemmas.Map.Made.{lookup-map_values}
 use Rattle.presence_base.specs.Names.{is_short_text}
 use Rattle.orswot_core.specs.Checks.{has_repeat}
-use Rattle.presence_journal.specs.Queue.{topic_at as first_topic, topic_of}
+use Rattle.presence_journal.specs.Queue.{Waiting, Behind, Queued, topic_at as first_topic, is_current, topic_of, queue, is_waiting}
+use Rattle.presence_journal.specs.History.{History}
 use Rattle.presence_journal.specs.Table.{is_subscriber}
 use Rattle.presence_journal.proofs.Topics.{subscriber_low}
-use Rattle.tracker_feeds.specs.Fed.{Subscriber, topic_at}
+use Rattle.tracker_feeds.specs.Fed.{Subscriber, Fed, found, topic_at, waits_at, as_waiting}
 use Rattle.tracker_feeds.specs.Rings.{Seen, subscriber, fed}
-use Rattle.tracker_feeds.specs.Listed.{topics_in, AreListed, ListedAreThose}
+use Rattle.tracker_feeds.specs.Listed.{topics_in, AreListed, ListedAreThose, is_served, served_in, AreCurrent, CurrentAreThose}
 use Rattle.tracker_feeds.specs.declared.followers.Follower.{Follower}
 use Rattle.tracker_feeds.proofs.FedLemmas.{found_is}
 use Rattle.tracker_feeds.proofs.LawLemmas.{topics_are_those}
@@ -110,3 +111,66 @@ listed_are_those h f last xs legal fed low listed = record {
     below : (n : ℕ) (o : Option (List ℕ)) → topic_of h n ≡ o → is_some o ≡ true → n ≤ last
     below n None is some = absurd (cc)
     below n (Some t) is some = omega (arith, subscriber_low h n t legal is, low)
+
+-- those for which nothing waits
+
+served_only : (f : Fed) (xs : List (ℕ × List ℕ)) (n : ℕ) → is_current (served_in f xs) n ≡ true → is_served (waits_at f n) ≡ true
+served_only f [] n there = absurd (cc)
+served_only f (x ∷ xs) n there = go (is_served (waits_at f x.0)) refl there (served_only f xs n)
+  where
+    head : (b : Bool) → nat_eq n x.0 ≡ b → is_served (waits_at f x.0) ≡ true → (b || is_current (served_in f xs) n) ≡ true → (is_current (served_in f xs) n ≡ true → is_served (waits_at f n) ≡ true) → is_served (waits_at f n) ≡ true
+    head true e p q rest = ap (λ (k : ℕ). is_served (waits_at f k)) (eqb-true n x.0 e) ∙ p
+    head false e p q rest = rest q
+
+    go : (b : Bool) → is_served (waits_at f x.0) ≡ b → is_current (cond b (x.0 ∷ served_in f xs) (served_in f xs)) n ≡ true → (is_current (served_in f xs) n ≡ true → is_served (waits_at f n) ≡ true) → is_served (waits_at f n) ≡ true
+    go true p q rest = head (nat_eq n x.0) refl p q rest
+    go false p q rest = rest q
+
+served_all : (f : Fed) (xs : List (ℕ × List ℕ)) (n : ℕ) → is_some (first_topic xs n) ≡ true → is_served (waits_at f n) ≡ true → is_current (served_in f xs) n ≡ true
+served_all f [] n there p = absurd (cc)
+served_all f (x ∷ xs) n there p = go (is_served (waits_at f x.0)) refl (nat_eq n x.0) refl there (λ some. served_all f xs n some p)
+  where
+    go : (b : Bool) → is_served (waits_at f x.0) ≡ b → (c : Bool) → nat_eq n x.0 ≡ c → is_some (cond c (Some x.1) (first_topic xs n)) ≡ true → (is_some (first_topic xs n) ≡ true → is_current (served_in f xs) n ≡ true) → is_current (cond b (x.0 ∷ served_in f xs) (served_in f xs)) n ≡ true
+    go true q true e some rest = ap (λ c. c || is_current (served_in f xs) n) e
+    go true q false e some rest = ap (λ c. c || is_current (served_in f xs) n) e ∙ rest some
+    go false q true e some rest = let bad : is_served (waits_at f x.0) ≡ true = ap (λ (k : ℕ). is_served (waits_at f k)) (sym (eqb-true n x.0 e)) ∙ p in absurd (cc)
+    go false q false e some rest = rest some
+
+pub served_more : (f : Fed) (list new : List ℕ) (now rest : List (ℕ × List ℕ)) (whole : List ℕ) (x : ℕ × List ℕ) (b : Bool) → now ≡ x ∷ rest → b ≡ is_served (waits_at f x.0) → new ≡ list ++ cond b (x.0 ∷ []) [] → list ++ served_in f now ≡ whole → new ++ served_in f rest ≡ whole
+served_more f list new now rest whole x b split is put so_far =
+    ap (λ (ns : List ℕ). ns ++ served_in f rest) put
+    ∙ (append_assoc list (cond b (x.0 ∷ []) []) (served_in f rest)
+    ∙ (ap (λ (ns : List ℕ). list ++ ns) (either b ∙ (ap (λ c. cond c (x.0 ∷ served_in f rest) (served_in f rest)) is ∙ ap (served_in f) (sym split))) ∙ so_far))
+  where
+    either : (c : Bool) → cond c (x.0 ∷ []) [] ++ served_in f rest ≡ cond c (x.0 ∷ served_in f rest) (served_in f rest)
+    either true = refl
+    either false = refl
+
+pub are_current : (f : Fed) (xs : List (ℕ × List ℕ)) (ns : List ℕ) → AreListed f xs → ns ≡ served_in f xs → AreCurrent f ns
+are_current f xs ns listed is = record {
+  only = λ n there. served_only f xs n (ap (λ (ks : List ℕ). is_current ks n) (sym is) ∙ there);
+  all = λ n p. ap (λ (ks : List ℕ). is_current ks n) is ∙ served_all f xs n (ap is_some (listed.topics n) ∙ found_some (found f n) p) p;
+}
+  where
+    found_some : (o : Option Subscriber) → is_served (option_map (λ (s : Subscriber). is_waiting s.waiting) o) ≡ true → is_some (option_map (λ (s : Subscriber). s.topic) o) ≡ true
+    found_some None p = absurd (cc)
+    found_some (Some s) p = refl
+
+pub current_are_those : CurrentAreThose
+current_are_those h f ns fed are = record { only = λ n there. only n (topic_of h n) refl (are.only n there); all = λ n t e q. are.all n (all n t e q) }
+  where
+    seen : (n : ℕ) → waits_at f n ≡ option_map (λ (s : Subscriber). is_waiting s.waiting) (option_map (as_waiting h n) (topic_of h n))
+    seen n = ap (option_map (λ (s : Subscriber). is_waiting s.waiting)) (fed.subscribers n)
+
+    none : (w : Waiting) → is_served (Some (is_waiting w)) ≡ true → w ≡ Queued []
+    none Behind p = absurd (cc)
+    none (Queued []) p = refl
+    none (Queued (i ∷ is)) p = absurd (cc)
+
+    only : (n : ℕ) (o : Option (List ℕ)) → topic_of h n ≡ o → is_served (waits_at f n) ≡ true → queue h n ≡ Queued []
+    only n None e p =
+        let bad : is_served (waits_at f n) ≡ false = ap is_served (seen n ∙ ap (λ (o : Option (List ℕ)). option_map (λ (s : Subscriber). is_waiting s.waiting) (option_map (as_waiting h n) o)) e) in absurd (cc)
+    only n (Some t) e p = none (queue h n) (sym (ap is_served (seen n ∙ ap (λ (o : Option (List ℕ)). option_map (λ (s : Subscriber). is_waiting s.waiting) (option_map (as_waiting h n) o)) e)) ∙ p)
+
+    all : (n : ℕ) (t : List ℕ) → topic_of h n ≡ Some t → queue h n ≡ Queued [] → is_served (waits_at f n) ≡ true
+    all n t e q = ap is_served (seen n ∙ (ap (λ (o : Option (List ℕ)). option_map (λ (s : Subscriber). is_waiting s.waiting) (option_map (as_waiting h n) o)) e ∙ ap (λ (w : Waiting). Some (is_waiting w)) q))

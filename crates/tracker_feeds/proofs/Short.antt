@@ -5,7 +5,7 @@ use Rattle.presence_journal.specs.declared.step.Step.TheVariants as steps_are
 use Rattle.presence_journal.specs.declared.rows.Item.{Item}
 use Rattle.presence_journal.specs.declared.step.Step.{Step}
 use Rattle.presence_journal.specs.History.{History, Begin, Then}
-use Rattle.presence_journal.specs.Queue.{Waiting, Behind, Queued, most_waiting, queued, push_items, left_by, queue_after, made_for, topic_of, queue}
+use Rattle.presence_journal.specs.Queue.{Waiting, Behind, Queued, is_current, first_waiting, most_waiting, queued, push_items, left_by, queue_after, made_for, topic_of, queue}
 
 abbrev IsShort : Waiting → Type 0
 IsShort Behind = Unit {0}
@@ -35,9 +35,13 @@ short_after (steps_are.Subscribe topic) number n new w l = either_short (nat_eq 
 short_after (steps_are.Take m max) number n new w l = either_short (nat_eq m n) (left_by max w) (push_items w new) (short_left max w l) (short_pushed w new)
 short_after _ number n new w l = short_pushed w new
 
+short_first : (b : Bool) → IsShort (first_waiting b)
+short_first true = omega arith
+short_first false = tt
+
 short_waits : (h : History) (n : ℕ) → IsShort (queue h n)
 unfolding queue
-short_waits (Begin s) n = tt
+short_waits (Begin s) n = short_first (is_current s.current n)
 short_waits (Then h e) n = short_after e.step e.number n (made_for h e (topic_of h n)) (queue h n) (short_waits h n)
 
 pub queue_short : (h : History) (n : ℕ) (q : List Item) → queue h n ≡ Queued q → length q ≤ most_waiting

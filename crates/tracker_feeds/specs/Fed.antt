@@ -7,7 +7,7 @@ use Rattle.std.specs.declared.sync.Arc.{Arc}
 use Rattle.presence_base.specs.Order.{text_cmp, same_text}
 use Rattle.presence_journal.specs.declared.rows.Item.{Item}
 use Rattle.presence_journal.specs.History.{History, last_number}
-use Rattle.presence_journal.specs.Queue.{Waiting, Behind, Queued, topic_of, queue, push_items, left_by, is_waiting}
+use Rattle.presence_journal.specs.Queue.{Waiting, Behind, Queued, first_waiting, topic_of, queue, push_items, left_by, is_waiting}
 
 -- a subscriber's topic, and what waits for it
 pub record Subscriber : Type 0 where
@@ -64,6 +64,10 @@ pub record IsChanged (old new : Fed) (n : ℕ) (s : Option Subscriber) : Type 0 
 -- one that is owed the state
 abbrev pub newcomer : List ℕ → Subscriber
 newcomer t = on_topic t Behind
+
+-- one of a Start: where it is current nothing waits for it, and else it is owed the state
+abbrev pub first_of : Bool → List ℕ → Subscriber
+first_of current t = on_topic t (first_waiting current)
 
 -- once up to so many items are taken
 abbrev pub left_with : ℕ → Subscriber → Subscriber

@@ -9,18 +9,24 @@ use Rattle.presence_journal.specs.declared.entry.Entry.{Entry}
 use Rattle.presence_journal.specs.declared.entry.Start.{Start}
 use Rattle.presence_journal.specs.History.{History, Begin, Then, last_number}
 use Rattle.presence_journal.specs.Present.{listed}
-use Rattle.presence_journal.specs.Queue.{topic_at as first_topic, topic_of, queue, items_made, items_given, is_waiting}
+use Rattle.presence_journal.specs.Queue.{topic_at as first_topic, is_current, topic_of, queue, items_made, items_given, is_waiting}
 use Rattle.presence_journal.specs.Table.{IsLegal, outcome_of}
-use Rattle.tracker_feeds.specs.Fed.{Fed, found, topic_at, waits_at, items_of, is_followed, IsFedBy, SameFed, IsChanged, IsDelivered, newcomer, left_with}
+use Rattle.tracker_feeds.specs.Fed.{Fed, found, topic_at, waits_at, items_of, is_followed, IsFedBy, SameFed, IsChanged, IsDelivered, newcomer, first_of, left_with}
+
+-- The subscribers of a Start, each number with its first topic: nothing waits for the current ones, and each other is owed
+-- the state.
+pub record IsBegun (topics : List (ℕ × List ℕ)) (current : List ℕ) (f : Fed) : Type 0 where
+  pub subscribers : (n : ℕ) → found f n ≡ option_map (first_of (is_current current n)) (first_topic topics n)
+  pub delivered : f.delivered ≡ 0
 
 -- subscribers that are owed the state, each number with its first topic
-pub record IsBegun (topics : List (ℕ × List ℕ)) (f : Fed) : Type 0 where
+pub record AreNewcomers (topics : List (ℕ × List ℕ)) (f : Fed) : Type 0 where
   pub subscribers : (n : ℕ) → found f n ≡ option_map newcomer (first_topic topics n)
   pub delivered : f.delivered ≡ 0
 
 -- the feeds of a journal's Start
 abbrev pub BeginningIsFed : Type 0
-BeginningIsFed = (s : Start) (f : Fed) → IsBegun s.subscribers f → IsFedBy (Begin s) f
+BeginningIsFed = (s : Start) (f : Fed) → IsBegun s.subscribers s.current f → IsFedBy (Begin s) f
 
 abbrev pub SameIsFed : Type 0
 SameIsFed = (h : History) (old new : Fed) → SameFed old new → IsFedBy h old → IsFedBy h new

@@ -1,21 +1,12 @@
 -- When no item waits for anybody.
-use Rattle.std.specs.Prelude.{◌≡◌, ℕ, Bool, true, false, List, [], ◌∷◌, Option, Some}
+use Rattle.std.specs.Prelude.{◌≡◌, ℕ, Bool, true, false, List, Option, Some}
 use Rattle.std.specs.List.{list_all}
 use Rattle.presence_journal.specs.History.{History}
-use Rattle.presence_journal.specs.Queue.{Waiting, Behind, Queued, topic_of, queue}
+use Rattle.presence_journal.specs.Queue.{topic_of, queue}
+pub use Rattle.presence_journal.specs.Queue.{is_idle, IsQuiet}
 use Rattle.tracker_feeds.specs.Fed.{Subscriber, Fed, found}
 use Rattle.tracker_feeds.specs.Rings.{Seen, waiting}
 use Rattle.tracker_feeds.specs.declared.followers.Follower.{Follower}
-
--- no item waits: one who is behind is owed the state in place of items
-abbrev pub is_idle : Waiting → Bool
-is_idle Behind = true
-is_idle (Queued []) = true
-is_idle (Queued (i ∷ is)) = false
-
--- each present subscriber of a history is behind, or nothing waits for it
-abbrev pub IsQuiet : History → Type 0
-IsQuiet h = (n : ℕ) (t : List ℕ) → topic_of h n ≡ Some t → is_idle (queue h n) ≡ true
 
 -- an item waits for some present subscriber
 abbrev pub IsBusy : History → Type 0

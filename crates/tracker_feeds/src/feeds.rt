@@ -2,19 +2,19 @@
 ghost use Rattle.std.specs.Prelude.{◌≡◌, ◌<◌, ◌^◌, false, nat_eq, [], map as each, None, Some, option_copied, option_map, IfOk, OnOk, OnErr};
 ghost use Rattle.tracker_feeds.specs.Fed.{found, topic_at, waits_at, is_followed, newcomer, left_with, items_of, items_for, SameFed, IsChanged, IsDelivered};
 ghost use Rattle.orswot_core.specs.Checks.{has_repeat};
-ghost use Rattle.tracker_feeds.specs.Laws.{IsBegun};
-ghost use Rattle.tracker_feeds.specs.Listed.{AreListed};
+ghost use Rattle.tracker_feeds.specs.Laws.{AreNewcomers, IsBegun};
+ghost use Rattle.tracker_feeds.specs.Listed.{AreListed, AreCurrent, is_served, served_in};
 ghost use Rattle.tracker_feeds.specs.Quiet.{TellsIdle};
 ghost use Rattle.tracker_feeds.specs.Rings.{shared};
 
 use crate::followers::{
     Follower, add_follower, are_idle, drop_follower, is_awaited, items_waiting, move_follower,
 };
-use crate::listing::listed_topics;
+use crate::listing::{listed_topics, push_if};
 use crate::rings::{Ring, push_all, reserve_all};
 use presence_base::Topic;
 use presence_journal::Item;
-use presence_journal_lists::Subscribers;
+use presence_journal_lists::{Numbers, Subscribers};
 use std::alloc::{AllocError, Global};
 use std::collections::BTreeMap;
 use std::marker::Model;
@@ -73,16 +73,67 @@ impl Feeds {
         self.rings.len() as u64
     }
 
-    /// The subscribers of a journal's Start, each owed the state of its topic.
-    pub fn start(alloc: Global, subscribers: &[(u64, Topic)]) -> Result<Feeds, AllocError>
+    // Subscribers that are each owed the state of its topic.
+    fn newcomers(alloc: Global, subscribers: &[(u64, Topic)]) -> Result<Feeds, AllocError>
         requires { has_repeat nat_eq (each (λ s. s.0) subscribers.now) ≡ false }
-        ensures { IfOk result (IsBegun subscribers.now) }
+        ensures { IfOk result (AreNewcomers subscribers.now) }
     {
         let mut feeds = Feeds::new(alloc);
         for subscriber in subscribers {
             feeds.subscribe(alloc, subscriber.0, &subscriber.1)?;
         }
         Ok(feeds)
+    }
+
+    /// The subscribers of a journal's Start: for the current ones nothing waits, and each other is owed the state of its topic.
+    pub fn start(
+        alloc: Global,
+        subscribers: &[(u64, Topic)],
+        current: &[u64],
+    ) -> Result<Feeds, AllocError>
+        requires { has_repeat nat_eq (each (λ s. s.0) subscribers.now) ≡ false }
+        ensures { IfOk result (IsBegun subscribers.now current.now) }
+    {
+        let mut feeds = Feeds::newcomers(alloc, subscribers)?;
+        for number in current {
+            feeds.took(*number, 1);
+        }
+        Ok(feeds)
+    }
+
+    // Whether nothing waits for a subscriber.
+    fn is_served(&self, number: u64) -> bool
+        ensures { result ≡ is_served (waits_at self.now number) }
+    {
+        match self.waits(number) {
+            Some(waits) => !waits,
+            None => false,
+        }
+    }
+
+    // Of these, the numbers of those for which nothing waits.
+    fn served_in(&self, alloc: Global, subscribers: &[(u64, Topic)]) -> Result<Vec<u64>, AllocError>
+        ensures { IfOk result (λ v. v.items ≡ served_in self.now subscribers.now) }
+    {
+        let mut numbers = Vec::new(alloc);
+        for subscriber in subscribers {
+            let is_served = self.is_served(subscriber.0);
+            push_if(&mut numbers, subscriber.0, is_served)?;
+        }
+        Ok(numbers)
+    }
+
+    /// The subscribers for which nothing waits, of the list of all of them. It costs a look at each.
+    pub fn current(
+        &self,
+        alloc: Global,
+        subscribers: &[(u64, Topic)],
+    ) -> Result<Numbers, AllocError>
+        requires { AreListed self.now subscribers.now }
+        ensures { IfOk result (AreCurrent self.now) }
+    {
+        let numbers = self.served_in(alloc, subscribers)?;
+        Ok(Numbers::new(numbers))
     }
 
     /// The subscribers with their topics, in order of number, as a Start has them. It costs what it gives.

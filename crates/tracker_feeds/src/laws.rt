@@ -1,7 +1,7 @@
 //! How feeds follow a history: functions that do nothing, and whose contracts are the laws.
 
 ghost use Rattle.tracker_feeds.specs.Laws.{BeginningIsFed, SameIsFed, NextIsFree, CanDeliver, SubscribeIsFed, UnsubscribeIsFed, TakeIsFed, DeliveryIsFed, QuietIsFed, TopicsAreThose, WaitsAreThose, ItemsAreThose};
-ghost use Rattle.tracker_feeds.specs.Listed.{ListedAreThose};
+ghost use Rattle.tracker_feeds.specs.Listed.{ListedAreThose, CurrentAreThose};
 
 /// Feeds begin as a journal's Start has them. From then on the number of the next entry is nobody's,
 /// and one delivery more can always be counted.
@@ -33,7 +33,9 @@ pub fn feeds_answer()
     ensures items { ItemsAreThose }
 {}
 
-/// The subscribers that are listed are those that are present, with numbers up to the last one.
+/// The subscribers that are listed are those that are present, with numbers up to the last one, and the current ones those of
+/// them for which nothing waits.
 pub fn subscribers_are_listed()
-    ensures { ListedAreThose }
+    ensures listed { ListedAreThose }
+    ensures current { CurrentAreThose }
 {}

@@ -1,5 +1,5 @@
 //! The subscribers, as a Start lists them.
-ghost use Rattle.std.specs.Prelude.{◌≡◌, ◌++◌, ◌∷◌, [], true, IfOk, OnOk};
+ghost use Rattle.std.specs.Prelude.{◌≡◌, ◌++◌, ◌∷◌, [], true, cond, IfOk, OnOk};
 ghost use Rattle.std.specs.List.{list_all};
 ghost use Rattle.std.specs.List.Sorted.{IsStrictlySortedBy};
 ghost use Rattle.std.specs.Map.{keys_of};
@@ -21,6 +21,16 @@ fn push_topic(list: &mut Vec<(u64, Topic)>, number: u64, topic: &Topic) -> Resul
     let _text = topic.as_str();
     let topic = topic.clone()?;
     list.push((number, topic))?;
+    Ok(())
+}
+
+/// Adds a number at the end, if it is to be there.
+pub(crate) fn push_if(list: &mut Vec<u64>, number: u64, is_there: bool) -> Result<(), AllocError>
+    ensures { OnOk result (list.new.items ≡ list.old.items ++ cond is_there (number ∷ []) []) }
+{
+    if is_there {
+        list.push(number)?;
+    }
     Ok(())
 }
 

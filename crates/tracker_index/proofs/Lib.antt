@@ -6,3 +6,4 @@ pub mod OwnRowLemmas
 pub mod StartingLemmas
 pub mod Crossing
 pub mod ReplayLemmas
+pub mod PassingLemmas

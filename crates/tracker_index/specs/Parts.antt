@@ -1,5 +1,7 @@
 -- How what is kept is tied to a journal's history.
 use Rattle.std.specs.Prelude.{◌≡◌, Bool, true, false}
+use Rattle.presence_journal.specs.declared.step.Step.TheVariants as steps_are
+use Rattle.presence_journal.specs.declared.step.Step.{Step}
 use Rattle.presence_journal.specs.declared.entry.Entry.{Entry}
 use Rattle.presence_base.specs.declared.dots.Replica.{Replica}
 use Rattle.presence_journal.specs.History.{History, Begin, Then, own, own_after}
@@ -94,3 +96,13 @@ IsUntoldAgain k u = (h : History) (e : Entry) → IsLegal (Then h e) → is_rebo
 abbrev pub FeedsFollow : Entry → Turn → Fed → Fed → Type 0
 FeedsFollow e turn f g =
     (h : History) → IsLegal (Then h e) → IsTurn h e turn → IsFedBy h f → IsFedBy (Then h e) g
+
+-- the step may change rows, counts, other replicas, or what is untold; any other reaches no more than what waits
+abbrev pub changes_rows : Step → Bool
+changes_rows (steps_are.List topic) = false
+changes_rows (steps_are.Get topic key) = false
+changes_rows (steps_are.Subscribe topic) = false
+changes_rows (steps_are.Take n max) = false
+changes_rows (steps_are.Unsubscribe n) = false
+changes_rows (steps_are.Shout topic payload) = false
+changes_rows _ = true

@@ -22,6 +22,7 @@ start_behind r n = record {
   chains = [];
   kept = nothing_kept;
   subscribers = [];
+  current = [];
   seated = 0;
 }
 

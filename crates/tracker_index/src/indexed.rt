@@ -3,7 +3,7 @@ ghost use Rattle.std.specs.Prelude.{◌≡◌, ◌<◌, ◌^◌, true, IfOk};
 ghost use Rattle.presence_journal.specs.History.{last_number};
 ghost use Rattle.presence_journal.specs.Table.{IsLegal as IsLegalHistory};
 ghost use Rattle.tracker_index.specs.Parts.{IsKeptOf};
-ghost use Rattle.tracker_index.specs.Starting.{IsBegunAgain as BeginsAgain};
+ghost use Rattle.tracker_index.specs.Starting.{IsBegunAgain as BeginsAgain, LeavesQueues};
 
 use crate::parts::{Parts, Stage};
 use crate::replaying::replayed;
@@ -63,15 +63,22 @@ impl Model for Indexed {
     ghost invariant = { λ x. IsSound x.journal x.parts };
 }
 
-// A journal that begins with a Start that stands for this one, and what is kept of it.
-fn begun_again(alloc: Global, journal: &Journal, parts: &Parts) -> Result<Indexed, AllocError>
+// A journal that begins with a Start that stands for this one, and what is kept of it. The subscribers for which nothing waits
+// stay current, or each of them is behind.
+fn begun_again(
+    alloc: Global,
+    journal: &Journal,
+    parts: &Parts,
+    stay: bool,
+) -> Result<Indexed, AllocError>
     requires kept { IsKeptOf journal.now parts.now }
     requires legal { IsLegalHistory journal.now }
     requires room { last_number journal.now < 2 ^ 62 }
     ensures begins { IfOk result (λ x. BeginsAgain journal.now x.history) }
+    ensures queues { IfOk result (λ x. LeavesQueues stay journal.now x.history) }
     ensures ready { IfOk result (λ x. x.is_ready ≡ true) }
 {
-    let start = start_of(alloc, journal, parts)?;
+    let start = start_of(alloc, journal, parts, stay)?;
     let parts = kept_of(alloc, &start)?;
     let journal = Journal::of_start(alloc, start);
     Ok(Indexed { journal, parts })
@@ -91,7 +98,7 @@ impl Indexed {
     ghost use Rattle.presence_journal_cuts.specs.ToldParts.{IsPartWhereItFits};
     ghost use Rattle.presence_journal_known.specs.Full.{IsFullOf};
     ghost use Rattle.tracker_index.specs.Resuming.{resumed};
-    ghost use Rattle.tracker_index.specs.Starting.{IsBegunAgain};
+    ghost use Rattle.tracker_index.specs.Starting.{IsBegunAgain, LeavesQueues};
     ghost use Rattle.tracker_feeds.specs.Quiet.{TellsQuiet};
     ghost use Rattle.tracker_known.specs.Known.{next_left};
 
@@ -208,17 +215,20 @@ impl Indexed {
     /// Puts a Start that stands for the journal in its place: the entries go, and what later ones depend on stays. Where
     /// memory is refused nothing changes.
     ///
+    /// Each subscriber is behind from then on; or, where they are to stay, those for which nothing waits stay as they are.
+    ///
     /// It walks over the entries once, and needs memory for a second copy of all that is kept.
-    pub fn checkpoint(&mut self, alloc: Global) -> Result<(), AllocError>
+    pub fn checkpoint(&mut self, alloc: Global, stay: bool) -> Result<(), AllocError>
         requires ready { self.old.is_ready ≡ true }
         requires room { last_number self.old.history < 2 ^ 62 }
         ensures ok { OnOk result (IsBegunAgain self.old.history self.new.history) }
+        ensures queues { OnOk result (LeavesQueues stay self.old.history self.new.history) }
         ensures ready { OnOk result (self.new.is_ready ≡ true) }
         ensures err { OnErr result (self.new ≡ self.old) }
     {
         // Read for the proof alone: the journal is legal.
         let _entries = self.journal.entries();
-        let next = begun_again(alloc, &self.journal, &self.parts)?;
+        let next = begun_again(alloc, &self.journal, &self.parts, stay)?;
         *self = next;
         Ok(())
     }

@@ -2,7 +2,7 @@
 ghost use Rattle.std.specs.Prelude.{◌≡◌, false, IfOk, OnOk, OnErr};
 ghost use Rattle.tracker_feeds.specs.Fed.{SameFed};
 ghost use Rattle.tracker_feeds.specs.Laws.{is_of_subscriber};
-ghost use Rattle.tracker_index.specs.Parts.{CanFeed, FeedsFollow, IsUntoldAgain};
+ghost use Rattle.tracker_index.specs.Parts.{CanFeed, FeedsFollow, IsUntoldAgain, changes_rows};
 ghost use Rattle.tracker_known.specs.Known.{IsOfOne};
 
 use presence_base::Replica;
@@ -72,6 +72,21 @@ fn feed(alloc: Global, feeds: &mut Feeds, entry: &Entry, turn: &Turn) -> Result<
     }
 }
 
+// Whether the step may change more than what waits.
+fn changes_rows(step: &Step) -> bool
+    ensures { result ≡ changes_rows step.now }
+{
+    !matches!(
+        step,
+        Step::List { .. }
+            | Step::Get { .. }
+            | Step::Subscribe { .. }
+            | Step::Take { .. }
+            | Step::Unsubscribe { .. }
+            | Step::Shout { .. }
+    )
+}
+
 // What is untold after a rebirth: all own rows.
 fn untold_again(alloc: Global, known: &Known) -> Result<Untold, AllocError>
     requires { IsOfOne known.now }
@@ -85,7 +100,7 @@ impl Parts {
     ghost use Rattle.std.specs.Prelude.{◌≡◌, true, false, OnOk};
     ghost use Rattle.presence_journal.specs.History.{begun};
     ghost use Rattle.presence_journal.specs.Walk.{is_reborn};
-    ghost use Rattle.tracker_index.specs.Parts.{IsAt, CanGoOn, GoesOn};
+    ghost use Rattle.tracker_index.specs.Parts.{IsAt, CanGoOn, GoesOn, changes_rows};
     ghost use Rattle.tracker_index.specs.declared.parts.Stage.TheVariants.{Done, Begun, Delivered, Learned};
 
     /// What is kept of an empty journal.
@@ -173,6 +188,38 @@ impl Parts {
         }
     }
 
+    // Brings what waits up to the last entry, where that is of a step that changes no more: all else is as it was.
+    fn pass(&mut self, alloc: Global, entry: &Entry) -> Result<(), AllocError>
+        requires follows { CanGoOn self.old entry.now }
+        requires stage { self.old.stage ≡ Begun }
+        requires rows { changes_rows entry.now.step ≡ false }
+        ensures kept { GoesOn entry.now self.old self.new }
+        ensures stage { OnOk result (self.new.stage ≡ Done) }
+    {
+        let turn = Turn {
+            joins: Vec::new(alloc),
+            leaves: Vec::new(alloc),
+        };
+        feed(alloc, &mut self.feeds, entry, &turn)?;
+        self.stage = Stage::Done;
+        Ok(())
+    }
+
+    // Brings all up to the last entry, where nothing of it was.
+    fn bring_up(&mut self, alloc: Global, entry: &Entry) -> Result<(), AllocError>
+        requires follows { CanGoOn self.old entry.now }
+        requires stage { self.old.stage ≡ Begun }
+        ensures kept { GoesOn entry.now self.old self.new }
+        ensures stage { OnOk result (self.new.stage ≡ Done) }
+    {
+        if !changes_rows(&entry.step) {
+            return self.pass(alloc, entry);
+        }
+        self.deliver(alloc, entry)?;
+        self.learn(alloc, entry)?;
+        self.finish(alloc, entry)
+    }
+
     /// Brings all up to the last entry. After a refusal the same call goes on from there.
     pub(crate) fn go_on(&mut self, alloc: Global, entry: &Entry) -> Result<(), AllocError>
         requires { CanGoOn self.old entry.now }
@@ -186,11 +233,7 @@ impl Parts {
                 self.learn(alloc, entry)?;
                 self.finish(alloc, entry)
             }
-            Stage::Begun => {
-                self.deliver(alloc, entry)?;
-                self.learn(alloc, entry)?;
-                self.finish(alloc, entry)
-            }
+            Stage::Begun => self.bring_up(alloc, entry),
         }
     }
 }

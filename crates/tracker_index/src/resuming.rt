@@ -8,7 +8,7 @@ use delta_range::Generations;
 use orswot_core::Told;
 use presence_base::Replica;
 use presence_journal::Start;
-use presence_journal_lists::{Chains, Runs, Standings, Subscribers};
+use presence_journal_lists::{Chains, Numbers, Runs, Standings, Subscribers};
 use std::alloc::{AllocError, Global};
 
 // What covers the dots of a replica up to a count, without a row.
@@ -43,6 +43,7 @@ pub(crate) fn start_of_count(alloc: Global, own: Replica, count: u64) -> Result<
         chains: Chains::new(Vec::new(alloc)),
         kept: Generations::new(),
         subscribers: Subscribers::new(Vec::new(alloc)),
+        current: Numbers::new(Vec::new(alloc)),
         seated: 0,
     })
 }

@@ -71,7 +71,7 @@ impl Shard {
     ghost use Rattle.presence_journal.specs.History.{begun, is_full, own, status, IsTop};
     ghost use Rattle.presence_journal.specs.Limits.{is_payload, is_take_limit};
     ghost use Rattle.presence_journal.specs.StepLimits.{is_within_limits};
-    ghost use Rattle.presence_journal.specs.Queue.{queue, is_waiting};
+    ghost use Rattle.presence_journal.specs.Queue.{queue, is_waiting, CurrentStay, AllAreBehind};
     ghost use Rattle.presence_journal.specs.Table.{IsLegal, AreWithinLimits, outcome_of};
     ghost use Rattle.presence_journal_cuts.specs.Cuts.{IsCut};
     ghost use Rattle.orswot_core.specs.Checks.{WhereItFits};
@@ -81,7 +81,7 @@ impl Shard {
     ghost use Rattle.tracker_feeds.specs.Quiet.{TellsQuiet};
     ghost use Rattle.tracker_shard.specs.Calls.{Looks, MayMake};
     ghost use Rattle.tracker_shard.specs.Steps.{Stepped, Answers, IsDue, RefusesForRoom, refusal, refusal_at, AnswersDot, AnswersRowsOfKey, AnswersRowsOfPid, AnswersListed, AnswersListedKey, AnswersItems, AnswersSub, is_found, checkpoint_refusal, AnswersPairs, KeepsRows};
-    ghost use Rattle.tracker_index.specs.Starting.{IsBegunAgain};
+    ghost use Rattle.tracker_index.specs.Starting.{IsBegunAgain, LeavesQueues};
     ghost use Rattle.tracker_index.specs.Resuming.{resumed};
 
     /// A shard of the replica with an empty journal.
@@ -525,13 +525,11 @@ impl Shard {
         self.perform(alloc, None, &Rebirth { incarnation })
     }
 
-    /// Puts a Start that stands for the journal in its place, and so makes room: the entries go, and what later ones depend
-    /// on stays. Each subscriber is owed the state of its topic from then on. It is no step. It costs a walk over the
-    /// entries, and needs memory for a second copy of all that is kept.
-    ///
-    /// It refuses with `JournalFull` where the last number is 2^62, else with `OutOfMemory`.
-    pub fn checkpoint(&mut self, alloc: Global) -> Result<(), ShardFault>
+    // Puts a Start that stands for the journal in its place. The subscribers for which nothing waits stay so, or each of them is
+    // behind.
+    fn begin_again(&mut self, alloc: Global, stay: bool) -> Result<(), ShardFault>
         ensures ok { OnOk result (IsBegunAgain self.old self.new) }
+        ensures queues { OnOk result (LeavesQueues stay self.old self.new) }
         ensures err { OnErr result (self.new ≡ self.old) }
         ensures due { IsDue result (checkpoint_refusal self.old) }
         ensures room { RefusesForRoom result }
@@ -540,8 +538,35 @@ impl Shard {
             return Err(ShardFault::JournalFull);
         }
         self.table.ready(alloc)?;
-        self.table.checkpoint(alloc)?;
+        self.table.checkpoint(alloc, stay)?;
         Ok(())
+    }
+
+    /// Puts a Start that stands for the journal in its place, and so makes room: the entries go, and what later ones depend
+    /// on stays. Each subscriber is owed the state of its topic from then on. It is no step. It costs a walk over the
+    /// entries, and needs memory for a second copy of all that is kept.
+    ///
+    /// It refuses with `JournalFull` where the last number is 2^62, else with `OutOfMemory`.
+    pub fn checkpoint(&mut self, alloc: Global) -> Result<(), ShardFault>
+        ensures ok { OnOk result (IsBegunAgain self.old self.new) }
+        ensures behind { OnOk result (AllAreBehind self.new) }
+        ensures err { OnErr result (self.new ≡ self.old) }
+        ensures due { IsDue result (checkpoint_refusal self.old) }
+        ensures room { RefusesForRoom result }
+    {
+        self.begin_again(alloc, false)
+    }
+
+    /// The same, but for the subscribers: one for which nothing waits stays so, since it has the state of its topic. Each other
+    /// is owed that; where nothing waits for anybody, those alone that were already. It costs a look at each of them too.
+    pub fn checkpoint_keeping_current(&mut self, alloc: Global) -> Result<(), ShardFault>
+        ensures ok { OnOk result (IsBegunAgain self.old self.new) }
+        ensures current { OnOk result (CurrentStay self.old self.new) }
+        ensures err { OnErr result (self.new ≡ self.old) }
+        ensures due { IsDue result (checkpoint_refusal self.old) }
+        ensures room { RefusesForRoom result }
+    {
+        self.begin_again(alloc, true)
     }
 
     /// All that the shard knows, for a node that missed what was told: of each replica that is not gone the counts that are covered,

@@ -1,9 +1,14 @@
-//! What everybody at the server shares by its options: the budgets of topics, the memory, and the log.
+//! What everybody at the server shares by its options: the budgets of topics, the memory, the log, and what clients may do.
+ghost use Rattle.std.specs.Prelude.{◌≡◌, IfOk};
+ghost use Rattle.presence_node_main.specs.ClientSettings.{IsSettingOf, events_in};
+
+use client_settings::{EventNames, OwnEvents, Settings};
 use node_log::{Log, LogFormat, Shown};
 use node_system::memory_there;
-use presence_options::{Budgets, LineFormat, Logged, MIN_MEMORY, Reports};
+use number_texts::Numbers;
+use presence_options::{Budgets, ClientOptions, LineFormat, Logged, MIN_MEMORY, Reports};
 use serve_rations::{Amount, MemoryMark, TopicBudgets};
-use std::alloc::Global;
+use std::alloc::{AllocError, Global};
 use std::rt::Files;
 use std::time::Clock;
 
@@ -59,4 +64,31 @@ pub(crate) fn now_in_seconds<R: Clock>(rt: &R) -> u64 {
         Ok(time) => time.as_secs(),
         Err(_) => 0,
     }
+}
+
+// The events of these names, if there is one.
+fn events_of(alloc: Global, options: &ClientOptions) -> Result<Option<OwnEvents>, AllocError>
+    ensures { IfOk result (λ events. events ≡ events_in options.now) }
+{
+    if options.events.is_empty() && options.answered.is_empty() && options.to_others.is_empty() {
+        return Ok(None);
+    }
+    let names = EventNames {
+        sent: options.events.clone()?,
+        answered: options.answered.clone()?,
+        to_others: options.to_others.clone()?,
+    };
+    Ok(Some(OwnEvents::new(alloc, names)?))
+}
+
+/// What clients may do beyond the usual.
+pub(crate) fn settings_of(alloc: Global, options: &ClientOptions) -> Result<Settings, AllocError>
+    ensures { IfOk result (IsSettingOf options.now) }
+{
+    let events = events_of(alloc, options)?;
+    Ok(Settings {
+        numbers: Numbers::allowed(options.fractions),
+        match_joins: options.match_joins,
+        events,
+    })
 }

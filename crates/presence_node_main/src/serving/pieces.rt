@@ -5,8 +5,8 @@ use node_system::{Bell, Watch};
 use node_threads::{Giver, Posts};
 use presence_options::ServeOptions;
 use presence_server::{
-    AddressLimits, Bench, Door, DoorLimits, Entries, LISTENER, METRICS_LISTENER, WorkerMailbox,
-    Workplace,
+    AddressLimits, Bench, Door, DoorLimits, Entrance, LISTENER, METRICS_LISTENER, OwnKeys,
+    WorkerMailbox, Workplace,
 };
 use serve_ports::Inbox;
 use serve_sockets::{ClientSocket, WebSocket};
@@ -19,13 +19,6 @@ use tungstenite::NoMask;
 
 /// The end of the queue that the door gives connections to.
 type Waiting = Giver<WebSocket<ClientSocket, NoMask>>;
-
-/// Where clients come in, and those who ask for metrics alone, and how many are let in.
-#[derive(Drop)]
-pub(crate) struct Entrance {
-    pub entries: Entries,
-    pub limits: DoorLimits,
-}
 
 /// How many clients are let in by these options.
 pub(crate) fn limits_of(options: &ServeOptions) -> DoorLimits {
@@ -58,11 +51,12 @@ impl<L: Lanes> Places<L> {
         net: &R,
         alloc: Global,
         waiting: &mut Waiting,
+        keys: &OwnKeys,
         seat: Seat<L>,
     ) -> io::Result<()> {
         let watch = Watch::new(net, alloc)?;
         self.mailboxes.push(mailbox_of(alloc, &watch)?)?;
-        let bench = Bench::new(alloc, seat, waiting.taker()?, watch);
+        let bench = Bench::new(alloc, seat, waiting.taker()?, watch, keys.share()?);
         let number = self.places.len();
         self.places.push(Workplace { number, bench })?;
         Ok(())
@@ -85,6 +79,7 @@ fn places_for<R: Net, L: Lanes>(
     net: &R,
     alloc: Global,
     waiting: &mut Waiting,
+    keys: &OwnKeys,
     seats: Vec<Seat<L>>,
 ) -> io::Result<Places<L>> {
     let mut all = Places {
@@ -92,7 +87,7 @@ fn places_for<R: Net, L: Lanes>(
         mailboxes: Vec::new(alloc),
     };
     for seat in seats {
-        all.add(net, alloc, waiting, seat)?;
+        all.add(net, alloc, waiting, keys, seat)?;
     }
     Ok(all)
 }
@@ -104,17 +99,16 @@ fn door_at<R: Net>(
     entrance: Entrance,
     waiting: Waiting,
 ) -> io::Result<(Door, Bell)> {
-    let Entrance { entries, limits } = entrance;
     let watch = Watch::new(net, alloc)?;
-    watch.add(&entries.clients, LISTENER)?;
-    if let Some(metrics) = &entries.metrics {
+    watch.add(&entrance.entries.clients, LISTENER)?;
+    if let Some(metrics) = &entrance.entries.metrics {
         watch.add(metrics, METRICS_LISTENER)?;
     }
     let bell = watch.bell()?;
-    Ok((Door::new(alloc, entries, waiting, watch, limits)?, bell))
+    Ok((Door::new(alloc, entrance, waiting, watch)?, bell))
 }
 
-/// A place for each seat, in their order, the door at this entrance, and the tasks of links.
+/// A place for each seat, in their order, with the entrance's keys, the door there, and the tasks of links.
 pub(crate) fn stations_for<R: Net, L: Lanes>(
     net: &R,
     alloc: Global,
@@ -123,7 +117,7 @@ pub(crate) fn stations_for<R: Net, L: Lanes>(
     tasks: Vec<LinkTask>,
 ) -> Result<Stations<L>, BeginFault> {
     let mut waiting = Giver::new(alloc)?;
-    let Places { places, mailboxes } = places_for(net, alloc, &mut waiting, seats)?;
+    let Places { places, mailboxes } = places_for(net, alloc, &mut waiting, &entrance.keys, seats)?;
     let (door, door_bell) = door_at(net, alloc, entrance, waiting)?;
     let posts = Posts {
         tools: places,

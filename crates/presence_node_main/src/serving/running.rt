@@ -7,11 +7,12 @@ ghost use Rattle.presence_node_main.specs.Ends.{IsEndFor, IsLinkEnd, IsMetricsEn
 ghost use Rattle.shard_pool.specs.Blanks.{HaveParts};
 ghost use Rattle.presence_node_main.specs.Ledgers.{AreBegun, IsNameOfAll};
 
-use super::belongings::{budgets_of, format_of, log_of, memory_of, now_in_seconds};
+use super::belongings::{budgets_of, format_of, log_of, memory_of, now_in_seconds, settings_of};
 use super::fault::BeginFault;
-use super::pieces::{Entrance, Stations, limits_of, stations_for};
+use super::pieces::{Stations, limits_of, stations_for};
 use super::place::{bare, place_of};
-use super::stopping::StopLine;
+use super::secrets::{Secrets, token_key_file};
+use super::stopping::{KeyPlace, StopLine};
 use crate::end::ServeEnd;
 use crate::settling::settled;
 use hook_registry::PresenceHooks;
@@ -20,15 +21,17 @@ use node_system::listen;
 use node_threads::{Posts, run_crew};
 use presence_base::{MAX_COUNT, Replica};
 use presence_options::{PeerOption, ServeOptions, VERSION};
-use presence_server::{Door, Entries, ServeRuntime, Server, Workplace, seats_of};
+use presence_server::{
+    Door, Entrance, Entries, KeyRing, OwnKeys, ServeRuntime, Server, Workplace, seats_of,
+};
 use serve_metrics::Counts;
 use shard_pool::{Blanks, Four, Lane, Lanes, NoGate, Pool, Seat};
 use std::alloc::{AllocError, Global};
 use std::io::ErrorKind;
 use std::marker::Brand;
 use std::net::{Net, TcpListener, TcpStream};
-use std::sync::Wait;
 use std::sync::atomic::AtomicBool;
+use std::sync::{Arc, Wait};
 use std::time::Clock;
 
 /// What a run of the server is given, and which life of the node it is.
@@ -37,6 +40,7 @@ struct Setting<'a, H> {
     alloc: Global,
     hooks: &'a H,
     options: &'a ServeOptions,
+    secrets: &'a Secrets,
     incarnation: u64,
     ghost is_count: { IsCount incarnation },
 }
@@ -228,6 +232,9 @@ fn links_for<R: Net, H>(
     let mut from = Vec::new(alloc);
     from.extend_from_slice(options.link_from.as_slice())?;
     let mut tasks = tasks_for(rt, alloc, node, listener, from)?;
+    if let Some(keys) = &setting.secrets.link_keys {
+        tasks.wants(Arc::try_clone(keys)?);
+    }
     dial_all(alloc, options.peers.as_slice(), &mut tasks)?;
     Ok(tasks)
 }
@@ -239,12 +246,20 @@ fn trim_all<R: Wait, L: Lanes>(rt: &R, pool: &Pool<NoGate, L>, seats: &mut Vec<S
     }
 }
 
+// Where keys are read anew, if clients sign in.
+fn key_place<'a>(ring: &'a KeyRing, options: &'a ServeOptions) -> Option<KeyPlace<'a>> {
+    match token_key_file(options) {
+        Some(file) => Some(KeyPlace { ring, file }),
+        None => None,
+    }
+}
+
 // Runs the threads of this server until it is stopped, and settles. Standard error is told the place before it is ready.
 fn run_server<R, H, L>(
     rt: &R,
     server: Server<'_, H, L>,
     posts: Posts<Workplace<L>, Door, LinkTask>,
-    place: &str,
+    options: &ServeOptions,
 ) -> Result<ServeEnd, BeginFault>
 where
     R: ServeRuntime,
@@ -256,10 +271,12 @@ where
         × Settles server.entry.pool.own.name server.entry.pool.shards server.entry.pool.seats hs end) }
 {
     let alloc = server.alloc;
+    let place = place_of(alloc, options)?;
     let stop = StopLine {
         alloc,
         log: &server.log,
-        place,
+        place: place.as_str(),
+        keys: key_place(&server.keys, options),
     };
     let places = run_crew(rt, alloc, &server, &stop, posts)?;
     let mut seats = seats_of(alloc, places)?;
@@ -287,10 +304,12 @@ where
 {
     let alloc = setting.alloc;
     let options = setting.options;
+    let settings = settings_of(alloc, &options.clients)?;
     let (entries, links) = listeners.into_parts();
     let entrance = Entrance {
         entries,
         limits: limits_of(options),
+        keys: OwnKeys::new(&setting.secrets.token_keys)?,
     };
     let (links, tasks) = links_for(rt, setting, links)?.into_parts();
     let Stations {
@@ -303,6 +322,7 @@ where
         pool,
         routes: &options.routes,
         hooks: setting.hooks,
+        settings: &settings,
         origins: options.origins.as_slice(),
         proxies: options.proxies.as_slice(),
         budgets: budgets_of(alloc, &options.budgets),
@@ -315,9 +335,9 @@ where
         door_bell,
         links,
         stopped: AtomicBool::new(false),
+        keys: KeyRing::new(&setting.secrets.token_keys)?,
     };
-    let place = place_of(alloc, options)?;
-    run_server(rt, server, posts, place.as_str())
+    run_server(rt, server, posts, options)
 }
 
 // Starts a pool over these ledgers, runs the threads over it, and settles.
@@ -373,7 +393,13 @@ where
 /// or goes.
 ///
 /// That a client is served or a node told of anything, and when, no contract says.
-pub fn serve<R, H>(rt: &R, alloc: Global, hooks: &H, options: &ServeOptions) -> ServeEnd
+pub fn serve<R, H>(
+    rt: &R,
+    alloc: Global,
+    hooks: &H,
+    options: &ServeOptions,
+    secrets: &Secrets,
+) -> ServeEnd
 where
     R: ServeRuntime,
     H: PresenceHooks + Sync,
@@ -388,6 +414,7 @@ where
         alloc,
         hooks,
         options,
+        secrets,
         incarnation: incarnation_for(rt, options),
     };
     serve_lanes::<R, H, Brand, Brand, Brand, Brand>(rt, &setting, listeners, blanks)

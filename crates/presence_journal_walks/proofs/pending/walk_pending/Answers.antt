@@ -26,7 +26,7 @@ loop-place-init c =
     record {
       here = c.in_ok-rows.ensures;
       topic = c.listed_topic-subscribed.ensures ∙ (ap (λ (xs : List (ℕ × List ℕ)). topic_at xs n) c.as_slice.ensures ∙ sym (topic_of-begin s n));
-      waits = sym (queue-begin s n);
+      waits = c.first_pending-pending.ensures ∙ sym (queue-begin s n);
     }
 
 pub made_items-requires : goal.made_items-requires

@@ -9,7 +9,7 @@ use Rattle.presence_journal_walks.proofs.waits.follow.Goals as goal
 pub loop-place-init : goal.loop-place-init
 loop-place-init c =
     let n = c.args.subscriber in
-    followed_none n c.start-start.result.now (option_copied c.listed_topic-topic.result) (c.listed_topic-topic.ensures ∙ ap (λ (xs : List (ℕ × List ℕ)). topic_at xs n) c.as_slice.ensures)
+    followed_none n c.start-start.result.now (option_copied c.listed_topic-topic.result) c.first_tally-tally.result (c.listed_topic-topic.ensures ∙ ap (λ (xs : List (ℕ × List ℕ)). topic_at xs n) c.as_slice.ensures) c.first_tally-tally.ensures
 
 pub loop-place-preserved : goal.loop-place-preserved
 loop-place-preserved c =

@@ -13,4 +13,6 @@ returns c =
     let one = c.in_ok-subcommand.ensures.shape (no_globals _ _ _ _ stdio_plain) ∙ ap₂ with_subcommand top_is (ap (λ (a : App). a.top) c.in_ok-stdio.ensures) in
     let serve_plain = ap (λ (a : App). a.top.is_plain) c.in_ok-serve.ensures in
     let two = c.in_ok-subcommand-2.ensures.shape (no_globals _ _ _ _ fold_plain) ∙ ap₂ with_subcommand one (ap (λ (a : App). a.top) c.in_ok-fold.ensures) in
-    IfOk-weaker c.subcommand-3.result _ _ (λ r a. a.shape (no_globals _ _ _ _ serve_plain) ∙ ap₂ with_subcommand two (ap (λ (a : App). a.top) c.in_ok-serve.ensures)) c.subcommand-3.ensures
+    let token_plain = ap (λ (a : App). a.top.is_plain) c.in_ok-token.ensures in
+    let three = c.in_ok-subcommand-3.ensures.shape (no_globals _ _ _ _ serve_plain) ∙ ap₂ with_subcommand two (ap (λ (a : App). a.top) c.in_ok-serve.ensures) in
+    IfOk-weaker c.subcommand-4.result _ _ (λ r a. a.shape (no_globals _ _ _ _ token_plain) ∙ ap₂ with_subcommand three (ap (λ (a : App). a.top) c.in_ok-token.ensures)) c.subcommand-4.ensures

@@ -11,4 +11,5 @@ returns c =
     let two = c.in_ok-arg-2.ensures.shape c.incarnation_option.ensures.local ∙ ap₂ with_rule one c.incarnation_option.ensures.rule in
     let three = c.in_ok-arg-3.ensures.shape c.route_option.ensures.local ∙ ap₂ with_rule two c.route_option.ensures.rule in
     let four = c.in_ok-arg-4.ensures.shape c.notices_flag.ensures.local ∙ ap₂ with_rule three c.notices_flag.ensures.rule in
-    IfOk-weaker c.arg-5.result _ _ (λ r a. a.shape c.explain_flag.ensures.local ∙ ap₂ with_rule four c.explain_flag.ensures.rule) c.arg-5.ensures
+    let five = c.in_ok-arg-5.ensures.shape c.explain_flag.ensures.local ∙ ap₂ with_rule four c.explain_flag.ensures.rule in
+    IfOk-weaker c.arg-6.result _ _ (λ r a. a.shape c.fractions_flag.ensures.local ∙ ap₂ with_rule five c.fractions_flag.ensures.rule) c.arg-6.ensures

@@ -1,4 +1,4 @@
-use Rattle.std.proofs.Common.{◌≡◌, ◌-◌, ◌≤◌, [], take, drop, Option}
+use Rattle.std.proofs.Common.{◌-◌, ◌≤◌, [], take, drop, Option}
 use Rattle.std.specs.declared.net.ip_addr.IpAddr.{IpAddr}
 use Rattle.serve_handshakes.specs.Clients.{BehindAll, pieces_from}
 use Rattle.serve_handshakes.proofs.client.behind_value.Given as goal

@@ -1,7 +1,7 @@
 use Rattle.std.proofs.Common.{◌≡◌, ℕ, Bool, List, bytes_eq, codes, not, refl, rules, subst}
 use Rattle.serve_handshakes.specs.Replies.{IsPlainReply, IsReplyTo}
 use Rattle.serve_handshakes.specs.declared.answer.Answer.{Answer}
-use Rattle.serve_handshakes.specs.declared.answer.Answer.TheVariants.{Socket, Page, Health, Metrics, BadRequest, Forbidden, NotFound, NotAllowed, Options, NoHost, LongHead, LongBody, Elsewhere, Unwell, Full, Crowded, Hasty}
+use Rattle.serve_handshakes.specs.declared.answer.Answer.TheVariants.{Socket, Page, Script, Health, Metrics, BadRequest, Forbidden, NotFound, NotAllowed, Options, NoHost, LongHead, LongBody, Elsewhere, Unwell, Full, Crowded, Hasty, Unauthorized}
 use Rattle.serve_handshakes.specs.declared.head.Request.{Request}
 use Rattle.serve_handshakes.proofs.replying.reply_of.Goals as goal
 
@@ -10,6 +10,7 @@ plain_is : (request : Request) (metrics : List ℕ) (answer : Answer) (is_sent :
     → is_sent ≡ not (bytes_eq request.method.now (codes "HEAD")) → IsPlainReply metrics answer is_sent reply → IsReplyTo request metrics answer reply
 plain_is request metrics (Socket p) is_sent reply other sent h = absurd (other p refl)
 plain_is request metrics Page is_sent reply other sent h = subst (λ b. IsPlainReply metrics Page b reply) sent h
+plain_is request metrics Script is_sent reply other sent h = subst (λ b. IsPlainReply metrics Script b reply) sent h
 plain_is request metrics Health is_sent reply other sent h = subst (λ b. IsPlainReply metrics Health b reply) sent h
 plain_is request metrics Metrics is_sent reply other sent h = subst (λ b. IsPlainReply metrics Metrics b reply) sent h
 plain_is request metrics BadRequest is_sent reply other sent h = subst (λ b. IsPlainReply metrics BadRequest b reply) sent h
@@ -25,6 +26,7 @@ plain_is request metrics Unwell is_sent reply other sent h = subst (λ b. IsPlai
 plain_is request metrics Full is_sent reply other sent h = subst (λ b. IsPlainReply metrics Full b reply) sent h
 plain_is request metrics Crowded is_sent reply other sent h = subst (λ b. IsPlainReply metrics Crowded b reply) sent h
 plain_is request metrics Hasty is_sent reply other sent h = subst (λ b. IsPlainReply metrics Hasty b reply) sent h
+plain_is request metrics (Unauthorized why) is_sent reply other sent h = subst (λ b. IsPlainReply metrics (Unauthorized why) b reply) sent h
 
 pub returns-in_default : goal.returns-in_default
 returns-in_default c =

@@ -7,4 +7,4 @@ pub returns : goal.returns
 returns g c =
     let many : HasMany c.args.due c.journal-journal.result.now = search rules in
     is_behind_lane c.journal-journal.result.now _ _ _ (search rules) (search rules) (search rules)
-    (made_quiet c.journal-journal.result.now c.checkpoint.new.self.shard c.args.due many (search rules) (search rules))
+    (made_quiet c.journal-journal.result.now c.checkpoint_keeping_current.new.self.shard c.args.due many (search rules) (search rules) (search rules))

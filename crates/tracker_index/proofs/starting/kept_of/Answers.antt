@@ -8,6 +8,6 @@ pub returns-clause-kept : goal.returns-clause-kept
 returns-clause-kept c = record {
   known = c.in_ok-known.ensures;
   shown = c.in_ok-shown.ensures;
-  feeds = fed_begins_at c.args.start.now c.as_slice.result.now c.in_ok-feeds.feeds c.as_slice.ensures c.in_ok-feeds.ensures;
+  feeds = fed_begins_at c.args.start.now c.as_slice.result.now c.as_slice-2.result.now c.in_ok-feeds.feeds c.as_slice.ensures c.as_slice-2.ensures c.in_ok-feeds.ensures;
   untold = c.in_ok-untold.ensures c.requires;
 }

@@ -1,4 +1,4 @@
-use Rattle.std.proofs.Common.{◌≡◌, ◌≤◌, ◌+◌, ℕ, length, refl, sym, ap, ◌∙◌, subst, Some, None, Ok, rules, arith}
+use Rattle.std.proofs.Common.{◌≡◌, ◌≤◌, length, refl, sym, subst, None, Ok, rules}
 use Rattle.crossbeam_queue.specs.Passes.{view}
 use Rattle.serve_connections.specs.Places.{served}
 use Rattle.serve_connections.specs.declared.worker.TheConstants.{MAX_CONNECTIONS}
@@ -8,14 +8,14 @@ use Rattle.serve_connections.proofs.worker.Worker.take_in.Goals as goal
 
 pub loop-init : goal.loop-init
 loop-init g c = (
-  takes_none c.args.now (served c.args.self.now.clients c.args.self.now.order.items) (served c.args.self.now.clients c.args.self.now.order.items) refl,
+  takes_none c.args.settings.now g.S.CarriesToken.carried c.args.now (served c.args.self.now.clients c.args.self.now.order.items) (served c.args.self.now.clients c.args.self.now.order.items) refl,
   lost_none (view c.args.self.now.taker.pass).pops (served c.args.self.now.clients c.args.self.now.order.items),
   search rules,
 )
 
 pub returns-in_err-no_more-clause-takes : goal.returns-in_err-no_more-clause-takes
 returns-in_err-no_more-clause-takes g c =
-    takes_by c.args.now (served c.args.self.now.clients c.args.self.now.order.items) (served c.loop.self.clients c.loop.self.order.items) (served c.take_one.new.self.clients c.take_one.new.self.order.items)
+    takes_by c.args.settings.now g.S.CarriesToken.carried c.args.now (served c.args.self.now.clients c.args.self.now.order.items) (served c.loop.self.clients c.loop.self.order.items) (served c.take_one.new.self.clients c.take_one.new.self.order.items)
     c.take_one.result c.take_one.ensures.takes c.loop.invariant.0
 
 pub returns-in_err-no_more-clause-none_lost : goal.returns-in_err-no_more-clause-none_lost
@@ -26,7 +26,7 @@ returns-in_err-no_more-clause-none_lost g c =
 
 pub returns-in-Some-clause-takes : goal.returns-in-Some-clause-takes
 returns-in-Some-clause-takes g c =
-    takes_by c.args.now (served c.args.self.now.clients c.args.self.now.order.items) (served c.loop.self.clients c.loop.self.order.items) (served c.take_one.new.self.clients c.take_one.new.self.order.items)
+    takes_by c.args.settings.now g.S.CarriesToken.carried c.args.now (served c.args.self.now.clients c.args.self.now.order.items) (served c.loop.self.clients c.loop.self.order.items) (served c.take_one.new.self.clients c.take_one.new.self.order.items)
     c.take_one.result c.take_one.ensures.takes c.loop.invariant.0
 
 pub returns-in-Some-clause-none_lost : goal.returns-in-Some-clause-none_lost
@@ -37,19 +37,19 @@ returns-in-Some-clause-none_lost g c =
 
 pub returns-in-Some-clause-ends : goal.returns-in-Some-clause-ends
 returns-in-Some-clause-ends g c =
-    ends_by c.args.now (served c.loop.self.clients c.loop.self.order.items) (served c.take_one.new.self.clients c.take_one.new.self.order.items)
+    ends_by c.args.settings.now g.S.CarriesToken.carried c.args.now (served c.loop.self.clients c.loop.self.order.items) (served c.take_one.new.self.clients c.take_one.new.self.order.items)
     c.take_one.result c.in-Some.no_more c.take_one.ensures.takes (search rules)
 
 pub loop-preserved : goal.loop-preserved
 loop-preserved g c =
     let none : c.take_one.result ≡ Ok None = search rules in (
-      takes_by c.args.now (served c.args.self.now.clients c.args.self.now.order.items) (served c.loop.self.clients c.loop.self.order.items) (served c.take_one.new.self.clients c.take_one.new.self.order.items)
+      takes_by c.args.settings.now g.S.CarriesToken.carried c.args.now (served c.args.self.now.clients c.args.self.now.order.items) (served c.loop.self.clients c.loop.self.order.items) (served c.take_one.new.self.clients c.take_one.new.self.order.items)
           c.take_one.result c.take_one.ensures.takes c.loop.invariant.0,
       lost_neither (view c.args.self.now.taker.pass).pops (view c.loop.self.taker.pass).pops (view c.take_one.new.self.taker.pass).pops
           (served c.args.self.now.clients c.args.self.now.order.items) (served c.loop.self.clients c.loop.self.order.items) (served c.take_one.new.self.clients c.take_one.new.self.order.items)
           c.loop.invariant.1 c.take_one.ensures.none_lost,
       counted (length (served c.args.self.now.clients c.args.self.now.order.items)) (length (served c.loop.self.clients c.loop.self.order.items)) (length (served c.take_one.new.self.clients c.take_one.new.self.order.items)) c.loop.counter c.loop.invariant.2
-          (took_by c.args.now (served c.loop.self.clients c.loop.self.order.items) (served c.take_one.new.self.clients c.take_one.new.self.order.items) c.take_one.result c.take_one.ensures.takes none),
+          (took_by c.args.settings.now g.S.CarriesToken.carried c.args.now (served c.loop.self.clients c.loop.self.order.items) (served c.take_one.new.self.clients c.take_one.new.self.order.items) c.take_one.result c.take_one.ensures.takes none),
     )
 
 pub returns-clause-takes : goal.returns-clause-takes

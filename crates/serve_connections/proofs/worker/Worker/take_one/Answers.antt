@@ -9,8 +9,8 @@ use Rattle.serve_connections.proofs.Takings.{lost_not, just}
 use Rattle.serve_connections.proofs.Places.{kept_length, same_kept, same_served, pushed_kept, pushed_served}
 use Rattle.serve_connections.proofs.worker.Worker.take_one.Goals as goal
 
-pub invariant_of-self-in-Break-branch-2 : goal.invariant_of-self-in-Break-branch-2
-invariant_of-self-in-Break-branch-2 g c =
+pub invariant_of-self-in-Break-branch-3 : goal.invariant_of-self-in-Break-branch-3
+invariant_of-self-in-Break-branch-3 g c =
     let keys : List ℕ = c.args.self.now.order.items in
     let slots = ap (λ s. s.slots) c.reserve-2.ensures.rest_kept in
     let same : served c.reserve-2.new.self keys ≡ served c.args.self.now.clients keys = same_served c.args.self.now.clients c.reserve-2.new.self keys slots in
@@ -38,7 +38,7 @@ pub invariant_of-self-2 : goal.invariant_of-self-2
 invariant_of-self-2 g c =
     let keys : List ℕ = c.args.self.now.order.items in
     let slots = ap (λ s. s.slots) c.reserve-2.ensures.rest_kept in
-    let x : Client g.row.S.Denot = record { number = c.in-Ok.connection.number; token = c.vacant_key-token.result; ready = true; unsent = false; connection = c.new.result } in
+    let x : Client g.row.S.Denot = record { number = c.in-Ok.connection.number; token = c.vacant_key-token.result; ready = true; unsent = false; connection = c.taken.result } in
     let room : AreKept c.reserve-2.new.self keys = same_kept c.args.self.now.clients c.reserve-2.new.self keys slots c.args.self.now.kept in
     let same : served c.reserve-2.new.self keys ≡ served c.args.self.now.clients keys = same_served c.args.self.now.clients c.reserve-2.new.self keys slots in
     let more : c.push_reserved.new.self.items ≡ keys ++ c.insert_reserved-key.result ∷ [] =
@@ -73,7 +73,7 @@ pub returns-clause-takes : goal.returns-clause-takes
 returns-clause-takes g c =
     let keys : List ℕ = c.args.self.now.order.items in
     let slots = ap (λ s. s.slots) c.reserve-2.ensures.rest_kept in
-    let x : Client g.row.S.Denot = record { number = c.in-Ok.connection.number; token = c.vacant_key-token.result; ready = true; unsent = false; connection = c.new.result } in
+    let x : Client g.row.S.Denot = record { number = c.in-Ok.connection.number; token = c.vacant_key-token.result; ready = true; unsent = false; connection = c.taken.result } in
     let room : AreKept c.reserve-2.new.self keys = same_kept c.args.self.now.clients c.reserve-2.new.self keys slots c.args.self.now.kept in
     let same : served c.reserve-2.new.self keys ≡ served c.args.self.now.clients keys = same_served c.args.self.now.clients c.reserve-2.new.self keys slots in
     let more : c.push_reserved.new.self.items ≡ keys ++ c.insert_reserved-key.result ∷ [] =
@@ -82,7 +82,7 @@ returns-clause-takes g c =
     pushed_served c.reserve-2.new.self c.insert_reserved-key.new.self c.insert_reserved-key.result x keys
     c.insert_reserved-key.ensures.updates c.insert_reserved-key.ensures.was_vacant room ∙ ap (λ (l : List (Client g.row.S.Denot)). l ++ x ∷ []) same in (
       x,
-      record { number = c.in-Ok.connection.number; token = c.vacant_key-token.result; socket = c.in-Ok.connection.stream; new = rw c.new.ensures refl },
+      record { number = c.in-Ok.connection.number; token = c.vacant_key-token.result; socket = c.in-Ok.connection.stream; signs_in = rw c.in_ok-settings.ensures at c.taken.ensures; new = refl },
       rw more all,
     )
 
@@ -90,7 +90,7 @@ pub returns-clause-none_lost : goal.returns-clause-none_lost
 returns-clause-none_lost g c =
     let keys : List ℕ = c.args.self.now.order.items in
     let slots = ap (λ s. s.slots) c.reserve-2.ensures.rest_kept in
-    let x : Client g.row.S.Denot = record { number = c.in-Ok.connection.number; token = c.vacant_key-token.result; ready = true; unsent = false; connection = c.new.result } in
+    let x : Client g.row.S.Denot = record { number = c.in-Ok.connection.number; token = c.vacant_key-token.result; ready = true; unsent = false; connection = c.taken.result } in
     let room : AreKept c.reserve-2.new.self keys = same_kept c.args.self.now.clients c.reserve-2.new.self keys slots c.args.self.now.kept in
     let same : served c.reserve-2.new.self keys ≡ served c.args.self.now.clients keys = same_served c.args.self.now.clients c.reserve-2.new.self keys slots in
     let more : c.push_reserved.new.self.items ≡ keys ++ c.insert_reserved-key.result ∷ [] =

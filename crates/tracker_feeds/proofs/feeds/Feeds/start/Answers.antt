@@ -1,27 +1,19 @@
-use Rattle.std.proofs.Common.{◌+◌, drop, refl, arith}
+use Rattle.std.proofs.Common.{◌+◌, drop, get_or, refl, arith}
 use Rattle.std.proofs.lemmas.List.{drop_all}
-use Rattle.presence_journal.proofs.Walking.{drop_next as list_next}
-use Rattle.tracker_feeds.proofs.BegunLemmas.{beginning, next_is_free, begun_more, begun_all}
+use Rattle.tracker_feeds.proofs.BegunLemmas.{catching, number_next, caught_more, caught_all}
 use Rattle.tracker_feeds.proofs.feeds.Feeds.start.Goals as goal
 
-pub loop-subscriber-init : goal.loop-subscriber-init
-loop-subscriber-init c = beginning c.args.subscribers.now c.args.subscribers.now c.new-feeds.result refl c.requires c.new-feeds.ensures
+pub loop-number-init : goal.loop-number-init
+loop-number-init c = catching c.args.subscribers.now c.args.current.now c.args.current.now c.in_ok-feeds.feeds refl c.in_ok-feeds.ensures
 
-pub subscribe-requires : goal.subscribe-requires
-subscribe-requires c =
-    let l = c.loop-subscriber in
-    let xs = c.args.subscribers.now in
-    let x = c.subscriber-item.result in
-    next_is_free xs (drop l.subscriber-index xs) (drop (l.subscriber-index + 1) xs) x l.feeds (list_next xs l.subscriber-index x c.loop-subscriber-test.true c.subscriber-item.is) l.invariant
-
-pub loop-subscriber-preserved : goal.loop-subscriber-preserved
-loop-subscriber-preserved c =
-    let l = c.loop-subscriber in
-    let xs = c.args.subscribers.now in
-    let x = c.subscriber-item.result in
-    begun_more xs (drop l.subscriber-index xs) (drop (l.subscriber-index + 1) xs) x l.feeds c.subscribe.new.self (list_next xs l.subscriber-index x c.loop-subscriber-test.true c.subscriber-item.is) l.invariant c.in_ok-subscribe.ensures.ok
+pub loop-number-preserved : goal.loop-number-preserved
+loop-number-preserved c =
+    let l = c.loop-number in
+    let ns = c.args.current.now in
+    caught_more c.args.subscribers.now ns (drop l.number-index ns) (drop (l.number-index + 1) ns) (get_or ns l.number-index 0) l.feeds c.took.new.self (number_next ns l.number-index c.loop-number-test.true) l.invariant c.took.ensures
 
 pub returns : goal.returns
 returns c =
-    let l = c.loop-subscriber in
-    begun_all c.args.subscribers.now (drop l.subscriber-index c.args.subscribers.now) l.feeds (drop_all l.subscriber-index c.args.subscribers.now (omega arith)) l.invariant
+    let l = c.loop-number in
+    let ns = c.args.current.now in
+    caught_all c.args.subscribers.now ns (drop l.number-index ns) l.feeds (drop_all l.number-index ns (omega arith)) l.invariant

@@ -1,6 +1,6 @@
 use Rattle.std.proofs.Common.{drop}
-use Rattle.tracker_feeds.proofs.BegunLemmas.{IsBeginning}
+use Rattle.tracker_feeds.proofs.BegunLemmas.{IsCatching}
 use Rattle.tracker_feeds.proofs.feeds.Feeds.start.Given as goal
 
-abbrev pub invariant-loop-subscriber : goal.invariant-loop-subscriber
-invariant-loop-subscriber l = IsBeginning l.subscribers (drop l.subscriber-index l.subscribers) l.feeds
+abbrev pub invariant-loop-number : goal.invariant-loop-number
+invariant-loop-number l = IsCatching l.subscribers l.current (drop l.number-index l.current) l.feeds

@@ -1,7 +1,7 @@
 use Rattle.std.proofs.Common.{◌<◌, ◌^◌, sym, ◌∙◌, ap, subst}
 use Rattle.presence_journal.specs.History.{History, last_number}
 use Rattle.tracker_index.specs.Seen.{Seen}
-use Rattle.tracker_index.specs.Starting.{IsBegunAgain}
+use Rattle.tracker_index.specs.Starting.{IsBegunAgain, LeavesQueues}
 use Rattle.tracker_index.proofs.IndexedLemmas.{kept_ready}
 use Rattle.tracker_index.proofs.indexed.Indexed.checkpoint.Goals as goal
 
@@ -17,3 +17,8 @@ pub returns-clause-ok : goal.returns-clause-ok
 returns-clause-ok c =
     subst (IsBegunAgain c.args.self.now.history) (sym (ap (λ (v : Seen). v.history) c.drop.view_is))
     (subst (λ (h : History). IsBegunAgain h c.in_ok-next.next.history) (ap (λ (v : Seen). v.history) c.self.view_is) c.in_ok-next.ensures.begins)
+
+pub returns-clause-queues : goal.returns-clause-queues
+returns-clause-queues c =
+    subst (LeavesQueues c.args.stay c.args.self.now.history) (sym (ap (λ (v : Seen). v.history) c.drop.view_is))
+    (subst (λ (h : History). LeavesQueues c.args.stay h c.in_ok-next.next.history) (ap (λ (v : Seen). v.history) c.self.view_is) c.in_ok-next.ensures.queues)

@@ -1,0 +1,9 @@
+pub mod Plain
+pub mod Late
+pub mod Endings
+pub mod Through
+pub mod Told
+pub mod Taken
+pub mod Shouted
+pub mod Unjoined
+pub mod Items

@@ -1,0 +1,133 @@
+//! What a client gets of its session's texts.
+ghost use Rattle.std.specs.Prelude.{◌≡◌, false, map, Ok, IfOk, string_bytes, option_map};
+ghost use Rattle.serde_json.specs.View.{view};
+ghost use Rattle.serde_json.specs.Written.{has_float};
+ghost use Rattle.phx_message.specs.Making.{broadcast_of};
+ghost use Rattle.channel_rules.specs.Said.{text_of};
+ghost use Rattle.client_settings.specs.Meaning.{IsPlain};
+ghost use Rattle.client_settings.specs.Kept.{seen_told, told_of};
+ghost use Rattle.client_settings.specs.Telling.{all_told_by, events_told, tells, told_by, told_text as told_of_text, with_told};
+
+use crate::events::OwnEvents;
+use crate::kept::{Told, told_by};
+use crate::meaning::is_shout;
+use crate::settings::Settings;
+use phx_message::laws::pushes_are_written;
+use phx_message::{Limits, Message, MessageFault, decode, push_text};
+use presence_base::Topic;
+use serde_json::Value;
+use std::alloc::{AllocError, Global};
+
+/// So the text ends of each shout whose payload isn't kept as it was sent.
+const KEPT_ENDING: &str = ",\"\\u0000\"]]";
+
+// The text of a broadcast.
+fn broadcast_text(
+    alloc: Global,
+    topic: &Topic,
+    event: &str,
+    payload: &Value,
+) -> Result<String, AllocError>
+    requires { has_float (view payload.now) ≡ false }
+    ensures { IfOk result (λ t. string_bytes t ≡ text_of (broadcast_of topic.now event.now (view payload.now))) }
+{
+    pushes_are_written();
+    let payload = payload.to_string(alloc)?;
+    push_text(alloc, &None, topic, event, payload.as_str())
+}
+
+// What a shout on a topic tells a session of this number, whose text this is.
+fn told_of_shout(
+    alloc: Global,
+    events: &OwnEvents,
+    pid: u64,
+    text: String,
+    message: &Message,
+) -> Result<Option<String>, AllocError>
+    requires { has_float message.now.payload ≡ false }
+    ensures { IfOk result (λ o. option_map string_bytes o
+        ≡ tells events.now pid (string_bytes text) message.now.topic (told_of message.now.payload)) }
+{
+    match told_by(&message.payload) {
+        Told::Itself => Ok(Some(text)),
+        Told::Shouted(payload) => Ok(Some(broadcast_text(
+            alloc,
+            &message.topic,
+            "shout",
+            payload,
+        )?)),
+        Told::Evented(event, sender, payload) => {
+            if !events.is_own(event) {
+                return Ok(Some(text));
+            }
+            if sender == Some(pid) {
+                return Ok(None);
+            }
+            Ok(Some(broadcast_text(alloc, &message.topic, event, payload)?))
+        }
+    }
+}
+
+// What becomes of a text.
+#[tactic(auto, unfolding(crate::specs::Telling::told_text))]
+fn told_text(
+    alloc: Global,
+    events: &OwnEvents,
+    pid: u64,
+    text: String,
+) -> Result<Option<String>, AllocError>
+    ensures { IfOk result (λ o. option_map string_bytes o ≡ told_of_text events.now pid (string_bytes text)) }
+{
+    if !text.as_bytes().ends_with(KEPT_ENDING.as_bytes()) {
+        return Ok(Some(text));
+    }
+    match decode(alloc, text.as_str(), Limits::FRAME) {
+        Ok(message) => {
+            if is_shout(message.event.as_str()) {
+                told_of_shout(alloc, events, pid, text, &message)
+            } else {
+                Ok(Some(text))
+            }
+        }
+        Err(MessageFault::OutOfMemory) => Err(AllocError),
+        Err(_) => Ok(Some(text)),
+    }
+}
+
+// What becomes of texts.
+fn all_told(
+    alloc: Global,
+    events: &OwnEvents,
+    pid: u64,
+    texts: Vec<String>,
+) -> Result<Vec<String>, AllocError>
+    ensures { IfOk result (λ told. map string_bytes told.items ≡ all_told_by events.now pid (map string_bytes texts.items)) }
+{
+    let mut told = Vec::with_capacity(alloc, texts.len())?;
+    for text in texts {
+        if let Some(text) = told_text(alloc, events, pid, text)? {
+            told.push(text)?;
+        }
+    }
+    Ok(told)
+}
+
+impl Settings {
+    /// What a client gets of these texts, whose session has this number. By default it gets them as they are, and no memory
+    /// is asked for.
+    pub fn tell(
+        &self,
+        alloc: Global,
+        pid: u64,
+        texts: Vec<String>,
+    ) -> Result<Vec<String>, AllocError>
+        ensures told { IfOk result (λ told. map string_bytes told.items ≡ told_by self.now pid (map string_bytes texts.items)) }
+        ensures plain { IsPlain self.now → result ≡ Ok texts }
+    {
+        let texts = match &self.events {
+            Some(events) => all_told(alloc, events, pid, texts)?,
+            None => texts,
+        };
+        self.numbers.told(alloc, texts)
+    }
+}

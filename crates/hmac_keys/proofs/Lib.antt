@@ -1,0 +1,4 @@
+pub mod Crossing
+pub mod Masks
+pub mod Differences
+pub mod Reading

@@ -1,0 +1,55 @@
+-- Where no quoted text begins with the mark, as a plain search finds.
+use Rattle.std.proofs.Common.{◌≡◌, ℕ, ◌==◌, ◌&&◌, not, Bool, true, false, List, [], ◌∷◌, ◌++◌, length, take, drop, None, refl, sym, ap, subst, ◌∙◌, append_assoc}
+use Rattle.std.specs.Bool.{MatchBool}
+use Rattle.std.specs.Cmp.Lexicographic.{pointwise}
+use Rattle.std.specs.Str.Iter.{HasSubslice}
+use Rattle.std.specs.Str.Pattern.{FindsText, HasMatch}
+use Rattle.std.proofs.lemmas.Str.Pattern.{contains_text}
+use Rattle.number_texts.specs.Pieces.{Piece, quoted, run, other, open_quote, plain, scan, joined}
+use Rattle.number_texts.specs.Marks.{mark, has_mark, all_named, has_none, has_no_marks}
+use Rattle.number_texts.proofs.Back.{both, is_same, joined_scan}
+
+further : (x s n : List ℕ) → HasSubslice s n → HasSubslice (x ++ s) n
+further x s n h = (x ++ h.0, h.1, ap (λ y. x ++ y) h.2 ∙ sym (append_assoc x h.0 (n ++ h.1)))
+
+pub begins : (n t : List ℕ) → pointwise ◌==◌ n (take (length n) t) ≡ true → t ≡ n ++ drop (length n) t
+begins [] t e = refl
+begins (x ∷ n) [] e = absurd (cc)
+begins (x ∷ n) (y ∷ t) e =
+    let parts = both (x == y) (pointwise ◌==◌ n (take (length n) t)) e in
+    rw (is_same x y parts.0) (ap (λ z. y ∷ z) (begins n t parts.1))
+
+-- the text of a quoted piece that begins with the mark, before what follows
+here : (t s : List ℕ) → has_mark t ≡ true → HasSubslice (34 ∷ ((t ++ 34 ∷ []) ++ s)) (34 ∷ mark)
+here t s e =
+    let rest = drop 6 t in
+    let whole : t ≡ mark ++ rest = begins mark t e in
+    ([], (rest ++ 34 ∷ []) ++ s, ap (λ x. 34 ∷ ((x ++ 34 ∷ []) ++ s)) whole)
+
+by_first : (m : Bool) (t : List ℕ) (ps : List Piece) → has_mark t ≡ m → (not m && all_named has_none ps) ≡ false
+    → (all_named has_none ps ≡ false → HasSubslice (joined ps) (34 ∷ mark))
+    → HasSubslice (34 ∷ ((t ++ 34 ∷ []) ++ joined ps)) (34 ∷ mark)
+by_first true t ps e is behind = here t (joined ps) e
+by_first false t ps e is behind = further (34 ∷ (t ++ 34 ∷ [])) (joined ps) (34 ∷ mark) (behind is)
+
+stands : (ps : List Piece) → all_named has_none ps ≡ false → HasSubslice (joined ps) (34 ∷ mark)
+stands [] e = absurd (cc)
+stands (quoted t ∷ ps) e = by_first (has_mark t) t ps refl e (λ is. stands ps is)
+stands (run r ∷ ps) e = further r (joined ps) (34 ∷ mark) (stands ps e)
+stands (other b ∷ ps) e = further (b ∷ []) (joined ps) (34 ∷ mark) (stands ps e)
+stands (open_quote t ∷ ps) e = further (34 ∷ t) (joined ps) (34 ∷ mark) (stands ps e)
+
+if_found : (v : Bool) (s : List ℕ) → all_named has_none (scan plain s) ≡ v → (HasSubslice s (34 ∷ mark) → ⊥) → v ≡ true
+if_found true s e none = refl
+if_found false s e none = absurd (none (subst (λ x. HasSubslice x (34 ∷ mark)) (joined_scan plain s) (stands (scan plain s) e)))
+
+never : (r : Bool) → r ≡ false → r ≡ true → ⊥
+never true e f = absurd (cc)
+never false e f = absurd (cc)
+
+-- a search for the quote and the mark that finds nothing
+pub unless_found : (r : Bool) (s : List ℕ) → MatchBool r (HasMatch (FindsText (34 ∷ mark)) s) (FindsText (34 ∷ mark) s None)
+    → r ≡ false → has_no_marks s ≡ true
+unfolding has_no_marks
+unless_found r s found e =
+    if_found (all_named has_none (scan plain s)) s refl (λ h. never r e ((contains_text r (34 ∷ mark) s found).1 h))

@@ -1,0 +1,11 @@
+pub mod Back
+pub mod Changing
+pub mod Chars
+pub mod Colons
+pub mod Comings
+pub mod Found
+pub mod Names
+pub mod Numerals
+pub mod Parts
+pub mod Runs
+pub mod Told

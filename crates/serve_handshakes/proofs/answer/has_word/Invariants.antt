@@ -1,6 +1,0 @@
-use Rattle.std.proofs.Common.{◌≡◌, ◌-◌, ◌≤◌, take, drop}
-use Rattle.serve_handshakes.specs.Answers.{has_word, has_word_from}
-use Rattle.serve_handshakes.proofs.answer.has_word.Given as goal
-
-abbrev pub invariant-loop-i : goal.invariant-loop-i
-invariant-loop-i l = (l.start ≤ l.i) × (has_word l.value l.wanted ≡ has_word_from l.wanted (take (l.i - l.start) (drop l.start l.value)) (drop l.i l.value))

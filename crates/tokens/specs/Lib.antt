@@ -1,0 +1,12 @@
+pub mod Answers
+pub mod Certified
+pub mod Claimed
+pub mod Granting
+pub mod Held
+pub mod Judged
+pub mod Judging
+pub mod Making
+pub mod Parts
+pub mod Signing
+pub mod Unique
+pub mod Views
