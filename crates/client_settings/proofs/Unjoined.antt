@@ -7,7 +7,7 @@ use Rattle.phx_message.specs.declared.message.TheConstants.Limits as the_limits
 use Rattle.channel_rules.specs.InForce.{InForce, Joined, find}
 use Rattle.channel_rules.specs.Rules.{kind_of}
 use Rattle.channel_rules.specs.Said.{text_of}
-use Rattle.client_settings.specs.Events.{is_own, is_own_by, is_servers, is_unknown_kind}
+use Rattle.client_settings.specs.Events.{is_own, is_own_by, is_reserved, is_unknown_kind}
 use Rattle.client_settings.specs.Kept.{kept_by}
 use Rattle.client_settings.specs.Laws.{IsFree}
 use Rattle.client_settings.specs.Meaning.{Meant, answer_to, answers, as_shout, is_late, is_taken_for_kept, is_under_another, late_reply, looks, meaning, meant_by_message, meant_by_text, meant_in_time, reads, shouting}
@@ -62,4 +62,4 @@ parts false b c h = absurd (cc)
 
 pub own_events_free : (given : Names) (event : List ℕ) → is_own_by given event ≡ true → IsFree event
 own_events_free given event h =
-    let are = parts (is_unknown_kind (kind_of event)) (is_servers event) _ h in record { unknown = are.0; client = are.1 }
+    let are = parts (is_unknown_kind (kind_of event)) (is_reserved event) _ h in record { unknown = are.0; client = are.1 }

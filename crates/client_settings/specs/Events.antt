@@ -18,14 +18,15 @@ abbrev pub is_unknown_kind : EventKind → Bool
 is_unknown_kind (kinds_are.Topic event) = is_unknown_topic_event event
 is_unknown_kind _ = false
 
--- an event that a server alone sends
-abbrev pub is_servers : List ℕ → Bool
-is_servers event = starts_with ◌==◌ event (codes "phx_")
-    || (bytes_eq event (codes "presence_state") || bytes_eq event (codes "presence_diff"))
+-- an event that is none of clients' own: a server alone sends it, or it shows a token
+abbrev pub is_reserved : List ℕ → Bool
+is_reserved event = starts_with ◌==◌ event (codes "phx_")
+    || (bytes_eq event (codes "presence_state")
+    || (bytes_eq event (codes "presence_diff") || bytes_eq event (codes "access_token")))
 
 -- an event that a client may have as its own
 abbrev pub is_free : List ℕ → Bool
-is_free event = is_unknown_kind (kind_of event) && not (is_servers event)
+is_free event = is_unknown_kind (kind_of event) && not (is_reserved event)
 
 -- the name is the event's, or that of all
 abbrev pub names : List ℕ → List ℕ → Bool

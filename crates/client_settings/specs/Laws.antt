@@ -12,7 +12,7 @@ use Rattle.channel_rules.specs.InForce.{InForce, Joined, find}
 use Rattle.channel_rules.specs.Rules.{is_phoenix, kind_of, rules, says}
 use Rattle.channel_rules.specs.Said.{text_of}
 use Rattle.channel_rules.specs.Script.{done}
-use Rattle.client_settings.specs.Events.{is_own_by, is_servers, is_unknown_kind}
+use Rattle.client_settings.specs.Events.{is_own_by, is_reserved, is_unknown_kind}
 use Rattle.client_settings.specs.Meaning.{IsPlain, as_shout, is_late, is_taken_for_kept, late_reply, meaning, reads, same_ref, shouting}
 use Rattle.client_settings.specs.Kept.{kept_by, kept_event}
 use Rattle.client_settings.specs.Telling.{is_pid, told_by, told_text}
@@ -55,7 +55,7 @@ UnjoinedStays = (given : Settings) (s : InForce) (text : List ℕ) (m : Message)
 -- no event of the channel's, nor one that a server alone sends, is a client's own
 pub record IsFree (event : List ℕ) : Type 0 where
   pub unknown : is_unknown_kind (kind_of event) ≡ true
-  pub client : is_servers event ≡ false
+  pub client : is_reserved event ≡ false
 
 abbrev pub OwnEventsAreFree : Type 0
 OwnEventsAreFree = (given : Names) (event : List ℕ) → is_own_by given event ≡ true → IsFree event

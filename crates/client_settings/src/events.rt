@@ -1,7 +1,7 @@
 //! Events of one's own, by their names.
 ghost use Rattle.std.specs.Prelude.{◌≡◌};
 ghost use Rattle.channel_rules.specs.Rules.{kind_of as kind_in};
-ghost use Rattle.client_settings.specs.Events.{is_free as is_free_event, is_named as is_named_in, is_servers as is_servers_event, is_unknown_kind, names as names_event};
+ghost use Rattle.client_settings.specs.Events.{is_free as is_free_event, is_named as is_named_in, is_reserved as is_reserved_event, is_unknown_kind, names as names_event};
 
 use channel_rules::{EventKind, TopicEvent, kind_of};
 use presence_base::Text;
@@ -66,18 +66,21 @@ fn is_unknown(event: &str) -> bool
     matches!(kind_of(event), EventKind::Topic(TopicEvent::Unknown))
 }
 
-// Whether a server alone sends an event.
-fn is_servers(event: &str) -> bool
-    ensures { result ≡ is_servers_event event.now }
+// Whether an event is none of clients' own: a server alone sends it, or it shows a token, which nobody else may see.
+fn is_reserved(event: &str) -> bool
+    ensures { result ≡ is_reserved_event event.now }
 {
-    event.as_bytes().starts_with(b"phx_") || event == "presence_state" || event == "presence_diff"
+    event.as_bytes().starts_with(b"phx_")
+        || event == "presence_state"
+        || event == "presence_diff"
+        || event == "access_token"
 }
 
 // Whether a client may have an event as its own.
 fn is_free(event: &str) -> bool
     ensures { result ≡ is_free_event event.now }
 {
-    is_unknown(event) && !is_servers(event)
+    is_unknown(event) && !is_reserved(event)
 }
 
 // Whether a name is that of an event, or of all.
