@@ -649,13 +649,13 @@ impl Door {
     }
 
     // Waits until there is something to do, and marks the handshakes that go on. Each is looked at after a while,
-    // so that one which is silent is given up.
-    fn pause<R: Clock>(&mut self, rt: &R) {
+    // so that one which is silent is given up, and while clients are let go they are counted as often.
+    fn pause<R: Clock>(&mut self, rt: &R, drains: bool) {
         let wait = if self.more {
             0
         } else if !self.waiting.is_empty() {
             QUEUE_MILLISECONDS
-        } else if self.guests.is_empty() && self.observers.is_empty() {
+        } else if self.guests.is_empty() && self.observers.is_empty() && !drains {
             IDLE_MILLISECONDS
         } else {
             LOOK_MILLISECONDS
@@ -702,7 +702,7 @@ impl Door {
             self.keys.look(rt, &server.keys);
             self.greet(rt, server);
             self.hand_on(rt, server);
-            self.pause(rt);
+            self.pause(rt, server.grace.has_begun());
             self.catch_up(rt, server);
         }
     }
