@@ -91,10 +91,10 @@ pub(crate) const TOPIC_BYTES_HELP: &str =
     "Bytes of their text, 1024 to 1073741824 [default: 8388608]";
 
 pub(crate) const GRACE_HELP: &str =
-    "Over how many seconds clients are let go at a stop, 0 to 3600 [default: 0]
-Some at a time, while no further one is taken, and then it stops
-A line drain on standard input asks for it too, and a second line stop
-ends it";
+    "Seconds over which clients are let go, 0 to 3600 [default: 0]
+At a stop, and at a line drain on standard input: some at a time,
+while no further one is taken, and then it stops
+A second line stop is at once";
 
 pub(crate) const LOG_HELP: &str = "Lines of which clients: refused, all or none [default: refused]
 On standard error, of those that are refused, dropped or closed for
@@ -187,7 +187,7 @@ Options of serve:
       --memory <MB>            Megabytes that it may take, from 32 [default: half of what there is]
       --topic-rows <NUMBER>    Rows of a topic at this node, 1 to 1048576 [default: 65536]
       --topic-bytes <NUMBER>   Bytes of their text, 1024 to 1073741824 [default: 8388608]
-      --grace <SECONDS>        Over how many clients are let go at a stop, 0 to 3600 [default: 0]
+      --grace <SECONDS>        Seconds over which clients are let go, 0 to 3600 [default: 0]
       --log <WORD>             Lines of which clients: refused, all or none [default: refused]
       --log-format <WORD>      As what, text or json [default: text]
       --metrics-port <PORT>    A port for /metrics alone, 1 to 65535 [default: at --port]

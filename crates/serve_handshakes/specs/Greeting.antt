@@ -9,7 +9,8 @@ use Rattle.websocket.specs.declared.protocol.config.Role.TheVariants as Role
 use Rattle.serve_handshakes.specs.Clients.{is_proxy}
 use Rattle.serve_handshakes.specs.Heads.{HasAsked}
 use Rattle.serve_handshakes.specs.declared.answer.Answer.{Answer}
-use Rattle.serve_handshakes.specs.declared.answer.Answer.TheVariants.{Draining, Health, Socket, Unwell}
+use Rattle.serve_handshakes.specs.declared.answer.Answer.TheVariants.{Draining, Health, Unwell}
+use Rattle.serve_handshakes.specs.declared.answer.Answer.TheVariants as answers
 use Rattle.serve_handshakes.specs.declared.front.Wellness.{Wellness}
 use Rattle.serve_handshakes.specs.declared.front.Wellness.TheVariants as wellness
 use Rattle.serve_handshakes.specs.declared.greeting.Greeting.{Greeting}
@@ -25,7 +26,7 @@ while_so_in wellness.Well answer = answer
 while_so_in wellness.Unwell Health = Unwell
 while_so_in wellness.Unwell answer = answer
 while_so_in wellness.Draining Health = Draining
-while_so_in wellness.Draining (Socket has_protocol) = Draining
+while_so_in wellness.Draining (answers.Socket has_protocol) = Draining
 while_so_in wellness.Draining answer = answer
 
 -- a client's address, as it is known behind what these proxies may have told of it: nobody else's word is believed
