@@ -281,6 +281,7 @@ where
         grace: &server.grace,
         counts: &server.counts,
         mailboxes: server.mailboxes.as_slice(),
+        door_bell: &server.door_bell,
     };
     let places = run_crew(rt, alloc, &server, &stop, posts)?;
     let mut seats = seats_of(alloc, places)?;

@@ -4,6 +4,7 @@ use super::key_files::{KeyFile, NoKeys};
 use super::orders::{MAX_BYTES, Order, order_in};
 use link_streams::time_behind;
 use node_log::{Level, Log};
+use node_system::Bell;
 use node_threads::AwaitEnd;
 use presence_server::{KeyRing, WorkerMailbox};
 use presence_stdio::read_line;
@@ -66,8 +67,9 @@ pub(crate) struct StopLine<'a> {
     /// Over how long clients are let go before the server stops.
     pub grace: &'a Grace,
     pub counts: &'a Counts,
-    /// What wakes the workers.
+    /// What wakes the workers, and the thread at the door.
     pub mailboxes: &'a [WorkerMailbox],
+    pub door_bell: &'a Bell,
 }
 
 impl StopLine<'_> {
@@ -114,6 +116,7 @@ impl StopLine<'_> {
     fn begin<R: Eprint + Clock>(&self, rt: &R) {
         let clients = self.clients();
         self.grace.begin(time_behind(rt, 0));
+        self.door_bell.ring();
         for mailbox in self.mailboxes {
             mailbox.bell.ring();
         }
