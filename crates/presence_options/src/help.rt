@@ -90,8 +90,7 @@ pub(crate) const TOPIC_ROWS_HELP: &str =
 pub(crate) const TOPIC_BYTES_HELP: &str =
     "Bytes of their text, 1024 to 1073741824 [default: 8388608]";
 
-pub(crate) const GRACE_HELP: &str =
-    "Seconds over which clients are let go, 0 to 3600 [default: 0]
+pub(crate) const GRACE_HELP: &str = "Seconds over which clients are let go, 0 to 3600 [default: 0]
 At a stop, and at a line drain on standard input: some at a time,
 while no further one is taken, and then it stops
 A second line stop is at once";

@@ -5,8 +5,8 @@ use crate::draining::{Drain, Due, count_anew, have_all_delivered, is_due, make_d
 use crate::ends::{Ends, ended_by};
 use crate::following::{add_newcomers, followed_by, followers_of, joined_topics, mark_followers};
 use crate::growth::Growth;
-use crate::letting_go::Farewell;
 use crate::key_ring::OwnKeys;
+use crate::letting_go::Farewell;
 use crate::received::Received;
 use crate::server::Server;
 use crate::turn_ports::{Served, port_at, served_by};

@@ -130,7 +130,9 @@ impl StopLine<'_> {
     // They were let go, but for those that are left.
     fn end<R: Eprint + Clock>(&self, rt: &R) {
         let clients = self.clients();
-        let words = format!(in self.alloc; "drained: the server stops; clients that are left: {clients}");
+        let words = format!(in self.alloc;
+            "drained: the server stops; clients that are left: {clients}"
+        );
         self.say(rt, words);
     }
 
