@@ -1,6 +1,4 @@
 //! Standard input, looked at without waiting for it.
-ghost use Rattle.std.specs.Prelude.{Some};
-
 use super::orders::{Order, Typed};
 use node_system::Watch;
 use std::alloc::Global;
@@ -18,10 +16,6 @@ const MAX_LOOK: usize = 64;
 struct StandardInput;
 
 impl AsRawFd for StandardInput {
-    ghost use Rattle.std.specs.Prelude.{Some};
-
-    ghost raw_fd = { λ _. Some (pos 0) };
-
     fn as_raw_fd(&self) -> RawFd {
         0
     }
