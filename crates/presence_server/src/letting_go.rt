@@ -1,4 +1,7 @@
 //! How a worker lets its clients go before the server stops.
+ghost use Rattle.std.specs.Prelude.{◌≡◌, Some, unwrap_or};
+ghost use Rattle.serve_grace.specs.Staying.{Leaves};
+
 use serve_connections::{Stage, Worker};
 use serve_grace::leaving;
 use serve_sockets::ClientSocket;
@@ -59,11 +62,20 @@ impl Farewell {
         self.clients = None;
     }
 
+    // How many of so many that are served have to go, once so much of the grace has passed. There were at the beginning as many as
+    // the first time.
+    fn due(&mut self, open: u64, passed: u64, grace: u64) -> u64
+        ensures first { self.new.clients ≡ Some (unwrap_or self.old.clients open) }
+        ensures leaves { Leaves open (unwrap_or self.old.clients open) passed grace result }
+    {
+        let clients = self.clients.unwrap_or(open);
+        self.clients = Some(clients);
+        leaving(open, clients, passed, grace)
+    }
+
     /// Once so much of the grace has passed, tells as many clients that the server stops as have to go by now.
     pub fn let_go(&mut self, worker: &mut Worker<ClientSocket>, passed: u64, grace: u64) {
         let open = open_clients(worker);
-        let clients = self.clients.unwrap_or(open);
-        self.clients = Some(clients);
-        stop_first(worker, leaving(open, clients, passed, grace));
+        stop_first(worker, self.due(open, passed, grace));
     }
 }
