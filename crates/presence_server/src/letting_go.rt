@@ -64,13 +64,13 @@ impl Farewell {
 
     // How many of so many that are served have to go, once so much of the grace has passed. There were at the beginning as many as
     // the first time.
-    fn due(&mut self, open: u64, passed: u64, grace: u64) -> u64
-        ensures first { self.new.clients ≡ Some (unwrap_or self.old.clients open) }
-        ensures leaves { Leaves open (unwrap_or self.old.clients open) passed grace result }
+    fn due(&mut self, there: u64, passed: u64, grace: u64) -> u64
+        ensures first { self.new.clients ≡ Some (unwrap_or self.old.clients there) }
+        ensures leaves { Leaves there (unwrap_or self.old.clients there) passed grace result }
     {
-        let clients = self.clients.unwrap_or(open);
+        let clients = self.clients.unwrap_or(there);
         self.clients = Some(clients);
-        leaving(open, clients, passed, grace)
+        leaving(there, clients, passed, grace)
     }
 
     /// Once so much of the grace has passed, tells as many clients that the server stops as have to go by now.
