@@ -4,7 +4,7 @@ ghost use Rattle.clap.specs.Words.{rule_of};
 ghost use Rattle.presence_options.specs.CommandLine.{flag_rule, option_rule};
 
 use crate::help::{
-    ANSWERED_HELP, EVENT_HELP, EXPLAIN_HELP, FOR_HELP, FRACTIONS_HELP, HANDSHAKES_HELP, KEY_HELP,
+    ANSWERED_HELP, API_KEYS_HELP, API_LISTEN_HELP, API_PORT_HELP, EVENT_HELP, EXPLAIN_HELP, FOR_HELP, FRACTIONS_HELP, HANDSHAKES_HELP, KEY_HELP,
     LINK_FROM_HELP, LINK_KEYS_HELP, LINK_LISTEN_HELP, LINK_PORT_HELP, LINK_VERSION_HELP,
     LISTEN_HELP, LOG_FORMAT_HELP, LOG_HELP, MATCH_JOINS_HELP, MEMORY_HELP, METRICS_PORT_HELP,
     NAME_HELP, NOTICES_HELP, ORIGIN_HELP, PEER_HELP, PER_ADDRESS_HELP, PHOENIX_HELP, PORT_HELP,
@@ -367,6 +367,42 @@ pub(crate) fn metrics_port_option<'a>(alloc: Global) -> Arg<'a>
         .value_name("PORT")
         .action(ArgAction::Set)
         .help(METRICS_PORT_HELP)
+}
+
+/// `--api-port PORT`.
+pub(crate) fn api_port_option<'a>(alloc: Global) -> Arg<'a>
+    ensures rule { rule_of result ≡ option_rule (codes "api-port") ArgAction.Set }
+    ensures local { result.global ≡ false }
+{
+    Arg::new(alloc, "api-port")
+        .long("api-port")
+        .value_name("PORT")
+        .action(ArgAction::Set)
+        .help(API_PORT_HELP)
+}
+
+/// `--api-listen ADDRESS`.
+pub(crate) fn api_listen_option<'a>(alloc: Global) -> Arg<'a>
+    ensures rule { rule_of result ≡ option_rule (codes "api-listen") ArgAction.Set }
+    ensures local { result.global ≡ false }
+{
+    Arg::new(alloc, "api-listen")
+        .long("api-listen")
+        .value_name("ADDRESS")
+        .action(ArgAction::Set)
+        .help(API_LISTEN_HELP)
+}
+
+/// `--api-keys FILE`.
+pub(crate) fn api_keys_option<'a>(alloc: Global) -> Arg<'a>
+    ensures rule { rule_of result ≡ option_rule (codes "api-keys") ArgAction.Set }
+    ensures local { result.global ≡ false }
+{
+    Arg::new(alloc, "api-keys")
+        .long("api-keys")
+        .value_name("FILE")
+        .action(ArgAction::Set)
+        .help(API_KEYS_HELP)
 }
 
 /// `--token-keys FILE`.

@@ -9,6 +9,9 @@ ghost use Rattle.presence_options.specs.Limits.{AreBudgets, AreWithin, IsEdgeWit
 use crate::addresses::AddressRule;
 use crate::addresses::listen_of;
 use crate::arguments::answered_option;
+use crate::arguments::api_keys_option;
+use crate::arguments::api_listen_option;
+use crate::arguments::api_port_option;
 use crate::arguments::event_option;
 use crate::arguments::explain_flag;
 use crate::arguments::fractions_flag;
@@ -48,6 +51,7 @@ use crate::event_names::with_all;
 use crate::fault::UsageCause;
 use crate::fault::UsageFault;
 use crate::found::given_addresses;
+use crate::found::given_api_port;
 use crate::found::given_handshakes;
 use crate::found::given_life;
 use crate::found::given_link_port;
@@ -78,6 +82,7 @@ use crate::help::TOKEN_TAKES;
 use crate::help::TOKEN_USAGE;
 use crate::help::USAGES;
 use crate::help::VERSION;
+use crate::options::ApiOptions;
 use crate::options::Budgets;
 use crate::options::ClientOptions;
 use crate::options::FoldOptions;
@@ -214,7 +219,10 @@ fn serve_command<'a>(alloc: Global) -> Result<Command<'a>, AllocError>
         .arg(answered_option(alloc))?
         .arg(to_others_option(alloc))?
         .arg(token_keys_option(alloc))?
-        .arg(link_keys_option(alloc))
+        .arg(link_keys_option(alloc))?
+        .arg(api_port_option(alloc))?
+        .arg(api_listen_option(alloc))?
+        .arg(api_keys_option(alloc))
 }
 
 // The whole command line.
@@ -354,6 +362,7 @@ struct Edge {
     clients: ClientOptions,
     token_keys: Option<String>,
     link_keys: Option<String>,
+    api: Option<ApiOptions>,
 }
 
 // The rules of the options that are numbers or addresses.
@@ -460,6 +469,22 @@ fn clients_of(alloc: Global, matches: &ArgMatches<'_>) -> Result<ClientOptions, 
     })
 }
 
+// Where backends are answered, if they are.
+fn api_of(alloc: Global, matches: &ArgMatches<'_>) -> Result<Option<ApiOptions>, UsageFault> {
+    let Some(port) = given_api_port(alloc, matches)? else {
+        return Ok(None);
+    };
+    let Some(keys) = given_text(alloc, matches, "api-keys")? else {
+        let text = String::from_str(
+            alloc,
+            "--api-port wants --api-keys FILE, a file of keys as --token-keys has it",
+        );
+        return Err(usage_of(UsageCause::ApiKeys, text));
+    };
+    let listen = listen_of(alloc, text_given(matches, "api-listen", "127.0.0.1"))?;
+    Ok(Some(ApiOptions { port, listen, keys }))
+}
+
 // What stands beside the node itself.
 #[tactic(auto, using(crate::proofs::Serving::untold_edge, crate::proofs::Serving::wasteful_edge, crate::proofs::Serving::unnamed_edge))]
 fn edge_of(alloc: Global, matches: &ArgMatches<'_>) -> Result<Edge, UsageFault>
@@ -474,6 +499,7 @@ fn edge_of(alloc: Global, matches: &ArgMatches<'_>) -> Result<Edge, UsageFault>
     let clients = clients_of(alloc, matches)?;
     let token_keys = given_text(alloc, matches, "token-keys")?;
     let link_keys = given_text(alloc, matches, "link-keys")?;
+    let api = api_of(alloc, matches)?;
     Ok(Edge {
         proxies,
         link_from,
@@ -482,6 +508,7 @@ fn edge_of(alloc: Global, matches: &ArgMatches<'_>) -> Result<Edge, UsageFault>
         clients,
         token_keys,
         link_keys,
+        api,
     })
 }
 
@@ -512,6 +539,7 @@ fn serve_options(alloc: Global, matches: &ArgMatches<'_>) -> Result<ServeOptions
         clients,
         token_keys,
         link_keys,
+        api,
     } = edge_of(alloc, matches)?;
     Ok(ServeOptions {
         name,
@@ -535,6 +563,7 @@ fn serve_options(alloc: Global, matches: &ArgMatches<'_>) -> Result<ServeOptions
         clients,
         token_keys,
         link_keys,
+        api,
     })
 }
 

@@ -51,6 +51,10 @@ pub enum UsageCause {
     MetricsPort,
     /// A name of an event is empty or too long, or there are too many.
     Event,
+    /// The port of backends is no number from 1 to 65535.
+    ApiPort,
+    /// It is given without a file of keys.
+    ApiKeys,
     /// No file of keys is given.
     KeyFile,
     /// The time that a token is to last is none, or more than `MAX_LASTS`.

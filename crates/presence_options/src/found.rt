@@ -216,6 +216,20 @@ pub(crate) fn given_metrics_port(
     }
 }
 
+/// The port of backends that is given, if one is.
+pub(crate) fn given_api_port(
+    alloc: Global,
+    matches: &ArgMatches<'_>,
+) -> Result<Option<u16>, UsageFault> {
+    let Some(text) = matches.get_str("api-port") else {
+        return Ok(None);
+    };
+    match further_port_of(alloc, text, UsageCause::ApiPort, "api-port") {
+        Ok(port) => Ok(Some(port)),
+        Err(fault) => Err(fault),
+    }
+}
+
 /// The number that the option of this rule is given, if one is.
 #[tactic(auto, using(crate::proofs::Rows::first_read))]
 pub(crate) fn given_number(

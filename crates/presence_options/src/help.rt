@@ -112,6 +112,16 @@ pub(crate) const LINK_KEYS_HELP: &str = "Keys that nodes show one another [defau
 A file as that of --token-keys, to be given to all nodes: a node is
 linked to where it has one of these keys too";
 
+pub(crate) const API_PORT_HELP: &str = "The port of backends, 1 to 65535 [default: none]
+They publish and ask who is there, by HTTP; it wants --api-keys";
+
+pub(crate) const API_LISTEN_HELP: &str = "The address of the port of backends [default: 127.0.0.1]";
+
+pub(crate) const API_KEYS_HELP: &str = "Keys that backends show
+A file as that of --token-keys; each request has the field
+Authorization: Bearer KEY, with a key as its line has it, or what
+stands there behind base64url:";
+
 pub(crate) const SHARDS_HELP: &str = "How many shards the topics are dealt to, 1 to 4 [default: 4]";
 
 pub(crate) const WORKERS_HELP: &str = "How many threads answer clients, 1 to 64 [default: 4]
@@ -184,6 +194,9 @@ Options of serve:
       --log <WORD>             Lines of which clients: refused, all or none [default: refused]
       --log-format <WORD>      As what, text or json [default: text]
       --metrics-port <PORT>    A port for /metrics alone, 1 to 65535 [default: at --port]
+      --api-port <PORT>        The port of backends, 1 to 65535 [default: none]
+      --api-listen <ADDRESS>   The address of the port of backends [default: 127.0.0.1]
+      --api-keys <FILE>        Keys that backends show
       --peer <NAME=HOST:PORT>  Another node to link to, as b=10.0.0.2:4001
       --link-port <PORT>       The port of links, 1 to 65535 [default: 4001 with --peer, or none]
       --link-listen <ADDRESS>  The address of the port of links [default: 127.0.0.1]

@@ -149,6 +149,14 @@ pub struct ClientOptions {
     pub to_others: Vec<Text>,
 }
 
+/// Where backends are answered, and the file of the keys that they show.
+#[derive(Debug, Drop)]
+pub struct ApiOptions {
+    pub port: u16,
+    pub listen: String,
+    pub keys: String,
+}
+
 /// What `serve` runs as: the node and its routes as those of `stdio`, the ports of its clients and of
 /// links, from 1 on, of which that of links may be none, how many shards and workers there are, up to which version links
 /// are spoken, the nodes that are linked to, the addresses of both ports, and the origins whose pages may connect, or none
@@ -179,6 +187,7 @@ pub struct ServeOptions {
     pub clients: ClientOptions,
     pub token_keys: Option<String>,
     pub link_keys: Option<String>,
+    pub api: Option<ApiOptions>,
     ghost is_count: { ForSome incarnation IsCount },
     ghost few_origins: { vec_len origins ≤ MAX_ORIGINS },
     ghost few_proxies: { vec_len proxies ≤ MAX_PROXIES },

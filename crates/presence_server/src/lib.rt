@@ -7,6 +7,7 @@
 
 mod bench;
 mod caller;
+mod desk;
 mod door;
 mod draining;
 mod ends;
@@ -25,9 +26,10 @@ mod runtime;
 mod server;
 
 pub use bench::Bench;
+pub use desk::{API_LISTENER, Desk};
 pub use door::{Door, DoorLimits, Entrance, Entries, LISTENER, METRICS_LISTENER};
 pub use key_ring::{KeyRing, OwnKeys};
 pub use neighbours::AddressLimits;
-pub use place::{Workplace, seats_of};
+pub use place::{Post, Workplace, seats_of};
 pub use runtime::ServeRuntime;
 pub use server::{Server, WorkerMailbox};

@@ -1,14 +1,22 @@
 //! A worker's place among the workers.
 use crate::bench::Bench;
+use crate::desk::Desk;
 use node_threads::Tools;
 use shard_pool::{Lanes, Seat};
 use std::alloc::{AllocError, Global};
 
-/// A place among the workers, and the bench there.
+/// What stands at a place: the bench of a worker, or the desk where backends are answered.
+#[derive(Drop)]
+pub enum Post<L: Lanes> {
+    Bench(Bench<L>),
+    Desk(Desk<L>),
+}
+
+/// A place among the workers, and what stands there.
 #[derive(Drop)]
 pub struct Workplace<L: Lanes> {
     pub number: usize,
-    pub bench: Bench<L>,
+    pub post: Post<L>,
 }
 
 impl<L: Lanes> Tools for Workplace<L> {
@@ -22,10 +30,12 @@ impl<L: Lanes> Workplace<L> {
 
     /// The seat, once the work is over.
     pub(crate) fn into_seat(self) -> Seat<L>
-        ensures { result ≡ self.bench.seat }
     {
-        let Workplace { number: _, bench } = self;
-        bench.into_seat()
+        let Workplace { number: _, post } = self;
+        match post {
+            Post::Bench(bench) => bench.into_seat(),
+            Post::Desk(desk) => desk.into_seat(),
+        }
     }
 }
 

@@ -3,7 +3,7 @@ ghost use Rattle.std.specs.Prelude.{◌≡◌};
 
 use crate::door::Door;
 use crate::key_ring::KeyRing;
-use crate::place::Workplace;
+use crate::place::{Post, Workplace};
 use client_settings::Settings;
 use hook_registry::{PresenceHooks, Routes};
 use link_threads::{LinkRuntime, LinkTask, Links, Wakes};
@@ -92,6 +92,8 @@ pub struct Server<'a, H, L: Lanes> {
     /// One of each worker, in their order.
     pub mailboxes: Vec<WorkerMailbox>,
     pub door_bell: Bell,
+    /// What wakes the thread that answers backends, where there is one.
+    pub desk_bell: Option<Bell>,
     pub links: Links,
     pub stopped: AtomicBool,
     /// Under which keys clients sign in, if they have to.
@@ -117,10 +119,12 @@ impl<'a, H, L: Lanes> Drop for Server<'a, H, L> {
             counts,
             mailboxes,
             door_bell,
+            desk_bell,
             links,
             stopped,
             keys,
         } = self;
+        drop(desk_bell);
         drop(pool);
         drop(budgets);
         drop(memory);
@@ -191,10 +195,12 @@ impl<'a, H, L: Lanes> Server<'a, H, L> {
             counts,
             mailboxes,
             door_bell,
+            desk_bell,
             links,
             stopped,
             keys,
         } = self;
+        drop(desk_bell);
         drop(budgets);
         drop(memory);
         drop(log);
@@ -229,9 +235,20 @@ where
     type Task = LinkTask;
 
     fn work(&self, rt: &R, place: Workplace<L>) -> Workplace<L> {
-        let Workplace { number, mut bench } = place;
-        bench.work(rt, self, number);
-        Workplace { number, bench }
+        let Workplace { number, post } = place;
+        let post = match post {
+            Post::Bench(bench) => {
+                let mut bench = bench;
+                bench.work(rt, self, number);
+                Post::Bench(bench)
+            }
+            Post::Desk(desk) => {
+                let mut desk = desk;
+                desk.work(rt, self);
+                Post::Desk(desk)
+            }
+        };
+        Workplace { number, post }
     }
 
     fn attend(&self, rt: &R, door: Door) {
@@ -247,6 +264,9 @@ where
         self.links.stop(rt);
         self.stopped.store(true, Ordering::SeqCst);
         self.door_bell.ring();
+        if let Some(bell) = &self.desk_bell {
+            bell.ring();
+        }
         for mailbox in self.mailboxes.iter() {
             mailbox.bell.ring();
         }

@@ -9,7 +9,7 @@ ghost use Rattle.presence_node_main.specs.Ledgers.{AreBegun, IsNameOfAll};
 
 use super::belongings::{budgets_of, format_of, log_of, memory_of, now_in_seconds, settings_of};
 use super::fault::BeginFault;
-use super::pieces::{Stations, limits_of, stations_for};
+use super::pieces::{ApiEntrance, Stations, limits_of, stations_for};
 use super::place::{bare, place_of};
 use super::secrets::{Secrets, token_key_file};
 use super::stopping::{KeyPlace, StopLine};
@@ -78,6 +78,7 @@ struct Listeners {
     clients: TcpListener,
     links: Option<TcpListener>,
     metrics: Option<TcpListener>,
+    api: Option<TcpListener>,
 }
 
 impl Drop for Listeners {
@@ -86,22 +87,25 @@ impl Drop for Listeners {
             clients,
             links,
             metrics,
+            api,
         } = self;
         drop(clients);
         drop(links);
         drop(metrics);
+        drop(api);
     }
 }
 
 impl Listeners {
-    // What listens for clients and for who asks for metrics, and what for links.
-    fn into_parts(self) -> (Entries, Option<TcpListener>) {
+    // What listens for clients and for who asks for metrics, what for links, and what for backends.
+    fn into_parts(self) -> (Entries, Option<TcpListener>, Option<TcpListener>) {
         let Listeners {
             clients,
             links,
             metrics,
+            api,
         } = self;
-        (Entries { clients, metrics }, links)
+        (Entries { clients, metrics }, links, api)
     }
 }
 
@@ -136,6 +140,15 @@ fn metrics_port_refused(port: u16, kind: ErrorKind) -> ServeEnd
         ErrorKind::OutOfMemory => ServeEnd::Memory,
         ErrorKind::AddrInUse => ServeEnd::MetricsPortTaken(port),
         _ => ServeEnd::NoMetricsPort(port),
+    }
+}
+
+// The end of a run whose port of backends could not be had.
+fn api_port_refused(port: u16, kind: ErrorKind) -> ServeEnd {
+    match kind {
+        ErrorKind::OutOfMemory => ServeEnd::Memory,
+        ErrorKind::AddrInUse => ServeEnd::ApiPortTaken(port),
+        _ => ServeEnd::NoApiPort(port),
     }
 }
 
@@ -183,6 +196,20 @@ where
     }
 }
 
+// What listens for backends, if they are answered, or the end of a run that can't have it.
+fn api_listener_at<R>(rt: &R, options: &ServeOptions) -> Result<Option<TcpListener>, ServeEnd>
+where
+    R: Net<Listener = TcpListener, Stream = TcpStream>,
+{
+    let Some(api) = &options.api else {
+        return Ok(None);
+    };
+    match listen(rt, bare(api.listen.as_str()), api.port) {
+        Ok(listener) => Ok(Some(listener)),
+        Err(e) => Err(api_port_refused(api.port, e.kind())),
+    }
+}
+
 // All listening sockets, or the end of a run that can't have them.
 fn listeners_for<R>(rt: &R, options: &ServeOptions) -> Result<Listeners, ServeEnd>
 where
@@ -192,10 +219,12 @@ where
     let clients = clients_for(rt, options)?;
     let links = links_at(rt, options)?;
     let metrics = metrics_at(rt, options)?;
+    let api = api_listener_at(rt, options)?;
     Ok(Listeners {
         clients,
         links,
         metrics,
+        api,
     })
 }
 
@@ -237,6 +266,25 @@ fn links_for<R: Net, H>(
     }
     dial_all(alloc, options.peers.as_slice(), &mut tasks)?;
     Ok(tasks)
+}
+
+// Where backends come in, if they are answered.
+fn api_entrance(
+    secrets: &Secrets,
+    listener: Option<TcpListener>,
+) -> Result<Option<ApiEntrance>, AllocError> {
+    match (listener, &secrets.api_keys) {
+        (Some(listener), Some(keys)) => Ok(Some(ApiEntrance {
+            listener,
+            keys: Arc::try_clone(keys)?,
+        })),
+        _ => Ok(None),
+    }
+}
+
+// How many seats there are: one of each worker, and one for backends, where these are answered.
+fn seats_for(options: &ServeOptions) -> u32 {
+    options.workers + u32::from(options.api.is_some())
 }
 
 // Drops the receipts that have no entry any more.
@@ -305,7 +353,8 @@ where
     let alloc = setting.alloc;
     let options = setting.options;
     let settings = settings_of(alloc, &options.clients)?;
-    let (entries, links) = listeners.into_parts();
+    let (entries, links, api) = listeners.into_parts();
+    let api = api_entrance(setting.secrets, api)?;
     let entrance = Entrance {
         entries,
         limits: limits_of(options),
@@ -316,7 +365,8 @@ where
         posts,
         mailboxes,
         door_bell,
-    } = stations_for(rt, alloc, entrance, seats, tasks)?;
+        desk_bell,
+    } = stations_for(rt, alloc, entrance, api, seats, tasks)?;
     let server = Server {
         alloc,
         pool,
@@ -333,6 +383,7 @@ where
         counts: Counts::new(),
         mailboxes,
         door_bell,
+        desk_bell,
         links,
         stopped: AtomicBool::new(false),
         keys: KeyRing::new(&setting.secrets.token_keys)?,
@@ -374,7 +425,7 @@ where
         setting.alloc,
         own,
         options.shards,
-        options.workers,
+        seats_for(options),
         NoGate,
         blanks,
     );
@@ -409,7 +460,7 @@ where
         Ok(listeners) => listeners,
         Err(end) => return end,
     };
-    let blanks = Blanks::new(u64::from(options.workers));
+    let blanks = Blanks::new(u64::from(seats_for(options)));
     let setting = Setting {
         alloc,
         hooks,

@@ -1,0 +1,3 @@
+mod Granting
+mod Sending
+mod Steps
