@@ -1,3 +1,5 @@
 mod Granting
+mod Json
+mod Queries
 mod Sending
 mod Steps

@@ -57,13 +57,25 @@ impl Topics {
 #[derive(Debug, Drop)]
 pub enum Asked {
     /// To send a payload to all who joined a topic.
-    Publish { topic: Topic, payload: Json },
+    Publish {
+        topic: Topic,
+        payload: Json,
+    },
     /// The same on each of these topics.
-    PublishAll { topics: Topics, payload: Json },
+    PublishAll {
+        topics: Topics,
+        payload: Json,
+    },
     /// Who is there, on a topic, or under one of its keys.
-    Presence { topic: Topic, key: Option<Key> },
+    Presence {
+        topic: Topic,
+        key: Option<Key>,
+    },
     /// Which topics there are behind this one, or from the first on, and at most so many.
-    Page { after: Option<Topic>, limit: u64 },
+    Page {
+        after: Option<Topic>,
+        limit: u64,
+    },
     /// To put out who is tracked under a key, on a topic or on any, and not to let it in again for so many seconds.
     Disconnect {
         key: Key,

@@ -1,5 +1,5 @@
 //! What a query asks.
-ghost use Rattle.std.specs.Prelude.{◌≡◌, Ok, option_map, string_bytes};
+ghost use Rattle.std.specs.Prelude.{◌≡◌, IfOk, option_map, string_bytes};
 ghost use Rattle.form_urlencoded.specs.Form.{raw_pairs};
 ghost use Rattle.api_requests.specs.Forms.{key_in, limit_in, page_in, presence_in, told_after_in, told_in, told_key_in, told_limit_in, told_topic_in, topic_in, value_of};
 ghost use Rattle.api_requests.specs.Steps.{Gives};
@@ -9,14 +9,14 @@ use crate::fault::RequestFault;
 use fast_float::Numeral;
 use form_urlencoded::parse;
 use presence_base::{Key, Topic};
-use std::alloc::Global;
+use std::alloc::{AllocError, Global};
 
 /// How many topics a page has at most, and as many where nothing is said of it.
 pub const MAX_PAGE: u64 = 1_000;
 
 // The value of the first pair of this name.
-fn value_in(alloc: Global, query: &str, name: &str) -> Result<Option<String>, RequestFault>
-    ensures { Gives (option_map string_bytes) result (Ok (value_of name.now (raw_pairs query.now))) }
+fn value_in(alloc: Global, query: &str, name: &str) -> Result<Option<String>, AllocError>
+    ensures { IfOk result (λ o. option_map string_bytes o ≡ value_of name.now (raw_pairs query.now)) }
 {
     for pair in parse(alloc, query.as_bytes()) {
         let (found, value) = pair?;
@@ -28,8 +28,8 @@ fn value_in(alloc: Global, query: &str, name: &str) -> Result<Option<String>, Re
 }
 
 // The same of a query that may not be there.
-fn told(alloc: Global, query: Option<&str>, name: &str) -> Result<Option<String>, RequestFault>
-    ensures { Gives (option_map string_bytes) result (Ok (told_in name.now (option_map (λ q. q.now) query.entry))) }
+fn told(alloc: Global, query: Option<&str>, name: &str) -> Result<Option<String>, AllocError>
+    ensures { IfOk result (λ o. option_map string_bytes o ≡ told_in name.now (option_map (λ q. q.now) query.entry)) }
 {
     match query {
         Some(query) => value_in(alloc, query, name),

@@ -36,12 +36,14 @@ fn reason_of(fault: RequestFault) -> &'static str
     ensures { result.now ≡ reason_in fault }
 {
     match fault {
-        RequestFault::NoKey => "no key is shown: the field Authorization has to be Bearer and a key",
+        RequestFault::NoKey =>
+            "no key is shown: the field Authorization has to be Bearer and a key",
         RequestFault::OtherKey => "this is none of the server's keys",
         RequestFault::NotFound => "nothing is at this path",
         RequestFault::NotAllowed(_) => "this method is not allowed here",
         RequestFault::TooLong => "M1 the body is too long: 65536 bytes are allowed",
-        RequestFault::NotJson => "M2 the body is not JSON: one value that nests at most 127 deep is allowed",
+        RequestFault::NotJson =>
+            "M2 the body is not JSON: one value that nests at most 127 deep is allowed",
         RequestFault::BadTopic => "M5 a topic is not a text of 1 to 255 bytes",
         RequestFault::TooDeep => "M7 the payload is too deep: 64 levels are allowed",
         RequestFault::Fraction => "M8 a number in the payload is not a whole number of 64 bits",

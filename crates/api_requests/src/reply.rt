@@ -16,10 +16,7 @@ pub struct Reply {
 #[derive(Clone, Copy, Debug, PartialEq, Eq)]
 pub enum Outcome {
     /// The shard's entry of this number sends it.
-    Sent {
-        shard: u32,
-        entry: u64,
-    },
+    Sent { shard: u32, entry: u64 },
     Refused(RequestFault),
 }
 

@@ -1,5 +1,5 @@
 //! Which key a request shows.
-ghost use Rattle.std.specs.Prelude.{◌≡◌, Ok, map};
+ghost use Rattle.std.specs.Prelude.{◌≡◌, IfOk, map};
 ghost use Rattle.hmac_keys.specs.Keys.{key_bytes};
 ghost use Rattle.api_requests.specs.Shown.{decoded_in, is_key as is_key_in, let_in as let_in_by};
 ghost use Rattle.api_requests.specs.Steps.{Gives};
@@ -9,15 +9,15 @@ use crate::request::Request;
 use base64::DecodeAllocError;
 use base64::engine::general_purpose::URL_SAFE_NO_PAD;
 use hmac_keys::{Keys, are_same};
-use std::alloc::Global;
+use std::alloc::{AllocError, Global};
 
 // The bytes that a text encodes, and none where it encodes none: those are no key.
-fn decoded(alloc: Global, text: &[u8]) -> Result<Vec<u8>, RequestFault>
-    ensures { Gives (λ v. v.items) result (Ok (decoded_in text.now)) }
+fn decoded(alloc: Global, text: &[u8]) -> Result<Vec<u8>, AllocError>
+    ensures { IfOk result (λ v. v.items ≡ decoded_in text.now) }
 {
     match URL_SAFE_NO_PAD.decode(alloc, text) {
         Ok(bytes) => Ok(bytes),
-        Err(DecodeAllocError::OutOfMemory) => Err(RequestFault::OutOfMemory),
+        Err(DecodeAllocError::OutOfMemory) => Err(AllocError),
         Err(DecodeAllocError::DecodeError(_)) => Ok(Vec::new(alloc)),
     }
 }

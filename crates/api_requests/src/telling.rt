@@ -2,8 +2,8 @@
 ghost use Rattle.std.specs.Prelude.{◌≡◌, ◌++◌, IfOk, OnOk, option_map, string_bytes};
 ghost use Rattle.api_requests.specs.Replies.{counts_text, next_text, ok_reply, outcome_text, outcomes_text, page_text, published_all_in, published_in, receipt_text as receipt_text_of, reply_view, rest_text, topic_rest_text, topics_text};
 
-use crate::reply::{Outcome, Reply, TopicCounts};
 use crate::replies::{ok, push_reason, refused};
+use crate::reply::{Outcome, Reply, TopicCounts};
 use phx_message::push_quoted;
 use presence_base::Topic;
 use std::alloc::{AllocError, Global};

@@ -1,7 +1,7 @@
 //! Requests, as clients of HTTP send them, and the texts of answers.
 use crate::{
-    Asked, Outcome, Place, Request, RequestFault, TopicCounts, ask, page, published,
-    published_all, refused,
+    Asked, Outcome, Place, Request, RequestFault, TopicCounts, ask, page, published, published_all,
+    refused,
 };
 use hmac_keys::Keys;
 use presence_base::Topic;
@@ -102,9 +102,18 @@ fn places_and_methods(rt: HostRuntime) -> Result<(), Fail> {
         fault(alloc, "POST", "/api/topics", None, b"")?,
         Some(RequestFault::NotAllowed(Place::Topics))
     );
-    assert_eq!(rt; fault(alloc, "GET", "/", None, b"")?, Some(RequestFault::NotFound));
-    assert_eq!(rt; fault(alloc, "OPTIONS", "/api", None, b"")?, Some(RequestFault::NotFound));
-    assert_eq!(rt; fault(alloc, "HEAD", "/api/presence", Some("topic=a"), b"")?, None);
+    assert_eq!(rt;
+        fault(alloc, "GET", "/", None, b"")?,
+        Some(RequestFault::NotFound)
+    );
+    assert_eq!(rt;
+        fault(alloc, "OPTIONS", "/api", None, b"")?,
+        Some(RequestFault::NotFound)
+    );
+    assert_eq!(rt;
+        fault(alloc, "HEAD", "/api/presence", Some("topic=a"), b"")?,
+        None
+    );
     Ok(())
 }
 
@@ -120,7 +129,13 @@ fn what_is_published(rt: HostRuntime) -> Result<(), Fail> {
         }
         _ => return Err(Fail::from("it asks something else")),
     }
-    match asked(alloc, "POST", "/api/publish", None, b"{\"topics\":[\"a\",\"b\"],\"payload\":null}")? {
+    match asked(
+        alloc,
+        "POST",
+        "/api/publish",
+        None,
+        b"{\"topics\":[\"a\",\"b\"],\"payload\":null}",
+    )? {
         Asked::PublishAll { topics, payload: _ } => {
             assert_eq!(rt; topics.as_slice().len(), 2);
             assert!(rt; topics.as_slice()[1].as_str() == "b");
@@ -134,12 +149,27 @@ fn what_is_published(rt: HostRuntime) -> Result<(), Fail> {
 fn what_is_not_published(rt: HostRuntime) -> Result<(), Fail> {
     let alloc = rt.alloc();
     assert_eq!(rt; unpublished(alloc, b"")?, Some(RequestFault::NotJson));
-    assert_eq!(rt; unpublished(alloc, b"\"\xff\"")?, Some(RequestFault::NotJson));
+    assert_eq!(rt;
+        unpublished(alloc, b"\"\xff\"")?,
+        Some(RequestFault::NotJson)
+    );
     assert_eq!(rt; unpublished(alloc, b"[]")?, Some(RequestFault::BadTopic));
-    assert_eq!(rt; unpublished(alloc, b"{\"topic\":\"\",\"payload\":1}")?, Some(RequestFault::BadTopic));
-    assert_eq!(rt; unpublished(alloc, b"{\"topics\":[\"a\",1],\"payload\":1}")?, Some(RequestFault::BadTopic));
-    assert_eq!(rt; unpublished(alloc, b"{\"topic\":\"a\"}")?, Some(RequestFault::BadPayload));
-    assert_eq!(rt; unpublished(alloc, b"{\"topic\":\"a\",\"payload\":1.5}")?, Some(RequestFault::Fraction));
+    assert_eq!(rt;
+        unpublished(alloc, b"{\"topic\":\"\",\"payload\":1}")?,
+        Some(RequestFault::BadTopic)
+    );
+    assert_eq!(rt;
+        unpublished(alloc, b"{\"topics\":[\"a\",1],\"payload\":1}")?,
+        Some(RequestFault::BadTopic)
+    );
+    assert_eq!(rt;
+        unpublished(alloc, b"{\"topic\":\"a\"}")?,
+        Some(RequestFault::BadPayload)
+    );
+    assert_eq!(rt;
+        unpublished(alloc, b"{\"topic\":\"a\",\"payload\":1.5}")?,
+        Some(RequestFault::Fraction)
+    );
     let mut deep = String::from_str(alloc, "{\"topic\":\"a\",\"payload\":")?;
     for _ in 0..65 {
         deep.push_str("[")?;
@@ -148,23 +178,41 @@ fn what_is_not_published(rt: HostRuntime) -> Result<(), Fail> {
         deep.push_str("]")?;
     }
     deep.push_str("}")?;
-    assert_eq!(rt; unpublished(alloc, deep.as_bytes())?, Some(RequestFault::TooDeep));
+    assert_eq!(rt;
+        unpublished(alloc, deep.as_bytes())?,
+        Some(RequestFault::TooDeep)
+    );
     let mut long = String::from_str(alloc, "0")?;
     for _ in 0..16 {
         let half = long.clone()?;
         long.push_str(half.as_str())?;
     }
-    assert_eq!(rt; unpublished(alloc, long.as_bytes())?, Some(RequestFault::NotJson));
+    assert_eq!(rt;
+        unpublished(alloc, long.as_bytes())?,
+        Some(RequestFault::NotJson)
+    );
     long.push_str("0")?;
-    assert_eq!(rt; unpublished(alloc, long.as_bytes())?, Some(RequestFault::TooLong));
+    assert_eq!(rt;
+        unpublished(alloc, long.as_bytes())?,
+        Some(RequestFault::TooLong)
+    );
     Ok(())
 }
 
 #[test]
 fn what_is_looked_at(rt: HostRuntime) -> Result<(), Fail> {
     let alloc = rt.alloc();
-    match asked(alloc, "GET", "/api/presence", Some("topic=room%3Atea&key=ann+b"), b"")? {
-        Asked::Presence { topic, key: Some(key) } => {
+    match asked(
+        alloc,
+        "GET",
+        "/api/presence",
+        Some("topic=room%3Atea&key=ann+b"),
+        b"",
+    )? {
+        Asked::Presence {
+            topic,
+            key: Some(key),
+        } => {
             assert!(rt; topic.as_str() == "room:tea");
             assert!(rt; key.as_str() == "ann b");
         }
@@ -177,21 +225,40 @@ fn what_is_looked_at(rt: HostRuntime) -> Result<(), Fail> {
         }
         _ => return Err(Fail::from("it asks something else")),
     }
-    assert_eq!(rt; fault(alloc, "GET", "/api/presence", None, b"")?, Some(RequestFault::BadTopic));
+    assert_eq!(rt;
+        fault(alloc, "GET", "/api/presence", None, b"")?,
+        Some(RequestFault::BadTopic)
+    );
     assert_eq!(rt;
         fault(alloc, "GET", "/api/presence", Some("topic=a&key="), b"")?,
         Some(RequestFault::BadPayload)
     );
-    assert_eq!(rt; fault(alloc, "GET", "/api/topics", Some("limit=1001"), b"")?, Some(RequestFault::BadLimit));
-    assert_eq!(rt; fault(alloc, "GET", "/api/topics", Some("limit=+7"), b"")?, Some(RequestFault::BadLimit));
+    assert_eq!(rt;
+        fault(alloc, "GET", "/api/topics", Some("limit=1001"), b"")?,
+        Some(RequestFault::BadLimit)
+    );
+    assert_eq!(rt;
+        fault(alloc, "GET", "/api/topics", Some("limit=+7"), b"")?,
+        Some(RequestFault::BadLimit)
+    );
     Ok(())
 }
 
 #[test]
 fn who_is_put_out(rt: HostRuntime) -> Result<(), Fail> {
     let alloc = rt.alloc();
-    match asked(alloc, "POST", "/api/disconnect", None, b"{\"key\":\"ann\",\"for\":60}")? {
-        Asked::Disconnect { key, topic, seconds } => {
+    match asked(
+        alloc,
+        "POST",
+        "/api/disconnect",
+        None,
+        b"{\"key\":\"ann\",\"for\":60}",
+    )? {
+        Asked::Disconnect {
+            key,
+            topic,
+            seconds,
+        } => {
             assert!(rt; key.as_str() == "ann");
             assert!(rt; topic.is_none());
             assert_eq!(rt; seconds, Some(60));
@@ -199,7 +266,13 @@ fn who_is_put_out(rt: HostRuntime) -> Result<(), Fail> {
         _ => return Err(Fail::from("it asks something else")),
     }
     assert_eq!(rt;
-        fault(alloc, "POST", "/api/disconnect", None, b"{\"key\":\"ann\",\"for\":-1}")?,
+        fault(
+            alloc,
+            "POST",
+            "/api/disconnect",
+            None,
+            b"{\"key\":\"ann\",\"for\":-1}"
+        )?,
         Some(RequestFault::BadPayload)
     );
     Ok(())
@@ -229,7 +302,9 @@ fn texts(rt: HostRuntime) -> Result<(), Fail> {
         subscribers: 2,
     }];
     let reply = page(alloc, &counts, Some(&topic))?;
-    assert!(rt; reply.body.as_str()
-        == "{\"topics\":{\"room:\\\"a\\\"\":{\"rows\":3,\"subscribers\":2}},\"next\":\"room:\\\"a\\\"\"}");
+    assert!(rt;
+        reply.body.as_str()
+            == "{\"topics\":{\"room:\\\"a\\\"\":{\"rows\":3,\"subscribers\":2}},\"next\":\"room:\\\"a\\\"\"}"
+    );
     Ok(())
 }

@@ -91,6 +91,7 @@ use crate::options::MAX_MEMORY;
 use crate::options::MAX_PROXIES;
 use crate::options::MAX_TOPIC_BYTES;
 use crate::options::MAX_TOPIC_ROWS;
+use crate::options::MAX_WORKERS;
 use crate::options::MIN_MEMORY;
 use crate::options::MIN_TOPIC_BYTES;
 use crate::options::Options;
@@ -485,6 +486,17 @@ fn api_of(alloc: Global, matches: &ArgMatches<'_>) -> Result<Option<ApiOptions>,
     Ok(Some(ApiOptions { port, listen, keys }))
 }
 
+// So many workers leave a seat of the pool to backends, if these are answered.
+fn seats_checked(alloc: Global, workers: u32, api: &Option<ApiOptions>) -> Result<(), UsageFault> {
+    if api.is_none() || workers < MAX_WORKERS {
+        return Ok(());
+    }
+    let text = format!(in alloc;
+        "--workers {workers}: beside --api-port there are 1 to 63 workers"
+    );
+    Err(usage_of(UsageCause::Workers, text))
+}
+
 // What stands beside the node itself.
 #[tactic(auto, using(crate::proofs::Serving::untold_edge, crate::proofs::Serving::wasteful_edge, crate::proofs::Serving::unnamed_edge))]
 fn edge_of(alloc: Global, matches: &ArgMatches<'_>) -> Result<Edge, UsageFault>
@@ -541,6 +553,7 @@ fn serve_options(alloc: Global, matches: &ArgMatches<'_>) -> Result<ServeOptions
         link_keys,
         api,
     } = edge_of(alloc, matches)?;
+    seats_checked(alloc, workers, &api)?;
     Ok(ServeOptions {
         name,
         incarnation,

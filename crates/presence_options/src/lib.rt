@@ -25,9 +25,9 @@ pub use command_line::options_of;
 pub use fault::{UsageCause, UsageFault};
 pub use help::{ALL_OPTIONS, FOLD_REFUSALS, SERVE_ENDS, STDIO_REFUSALS, TO_TRY, VERSION};
 pub use options::{
-    ApiOptions, Budgets, ClientOptions, FoldOptions, LINK_PORT, LineFormat, Logged, MAX_EVENT_BYTES,
-    MAX_EVENT_NAMES, MAX_HANDSHAKES_PER_SECOND, MAX_LASTS, MAX_LINK_FROM, MAX_LINK_VERSION,
-    MAX_MEMORY, MAX_ORIGINS, MAX_PER_ADDRESS, MAX_PROXIES, MAX_TOPIC_BYTES, MAX_TOPIC_ROWS,
-    MAX_WORKERS, MIN_MEMORY, MIN_TOPIC_BYTES, Options, PeerOption, Reports, ServeOptions,
-    StdioOptions, TOPIC_BYTES, TOPIC_ROWS, TokenOptions,
+    ApiOptions, Budgets, ClientOptions, FoldOptions, LINK_PORT, LineFormat, Logged,
+    MAX_EVENT_BYTES, MAX_EVENT_NAMES, MAX_HANDSHAKES_PER_SECOND, MAX_LASTS, MAX_LINK_FROM,
+    MAX_LINK_VERSION, MAX_MEMORY, MAX_ORIGINS, MAX_PER_ADDRESS, MAX_PROXIES, MAX_TOPIC_BYTES,
+    MAX_TOPIC_ROWS, MAX_WORKERS, MIN_MEMORY, MIN_TOPIC_BYTES, Options, PeerOption, Reports,
+    ServeOptions, StdioOptions, TOPIC_BYTES, TOPIC_ROWS, TokenOptions,
 };

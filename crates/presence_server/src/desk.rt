@@ -161,11 +161,7 @@ impl<L: Lanes> Desk<L> {
             has_made_room: false,
         };
         self.visitors.turn(&mut clerk, self.now);
-        let Clerk {
-            changed,
-            has_made_room,
-            ..
-        } = clerk;
+        let (changed, has_made_room) = clerk.into_done();
         self.turns = self.turns.wrapping_add(1);
         if has_made_room || self.turns % TRIM_TURNS == 0 {
             server.pool.trim(rt, &mut self.seat);

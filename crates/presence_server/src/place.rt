@@ -29,8 +29,7 @@ impl<L: Lanes> Workplace<L> {
     ghost use Rattle.std.specs.Prelude.{◌≡◌};
 
     /// The seat, once the work is over.
-    pub(crate) fn into_seat(self) -> Seat<L>
-    {
+    pub(crate) fn into_seat(self) -> Seat<L> {
         let Workplace { number: _, post } = self;
         match post {
             Post::Bench(bench) => bench.into_seat(),

@@ -50,6 +50,23 @@ fn fault_of(fault: ShardFault) -> RequestFault {
 }
 
 impl<'a, R: Wait, H: PresenceHooks, L: Lanes> Clerk<'a, R, H, L> {
+    /// On which topics something was sent, and whether a shard's journal was begun again.
+    pub fn into_done(self) -> (Followed, bool) {
+        let Clerk {
+            rt: _,
+            alloc: _,
+            pool: _,
+            routes: _,
+            hooks: _,
+            keys: _,
+            seat: _,
+            is_tight: _,
+            changed,
+            has_made_room,
+        } = self;
+        (changed, has_made_room)
+    }
+
     // Makes a call of the topic's shard.
     fn make<C: SeatCall>(
         &mut self,
@@ -59,7 +76,9 @@ impl<'a, R: Wait, H: PresenceHooks, L: Lanes> Clerk<'a, R, H, L> {
         let Tried {
             answer,
             has_begun_again,
-        } = self.pool.call(self.rt, self.alloc, &mut *self.seat, topic, call);
+        } = self
+            .pool
+            .call(self.rt, self.alloc, &mut *self.seat, topic, call);
         self.has_made_room = self.has_made_room || has_begun_again;
         match answer {
             Ok(reply) => Ok(reply),

@@ -1,8 +1,8 @@
 //! Answers as responses of HTTP.
 use api_requests::Reply;
 use bytes::Bytes;
-use http::header::{ALLOW, CONTENT_TYPE, HeaderValue, RETRY_AFTER, WWW_AUTHENTICATE};
 use http::StatusCode;
+use http::header::{ALLOW, CONTENT_TYPE, HeaderValue, RETRY_AFTER, WWW_AUTHENTICATE};
 use http_server::Response;
 use std::alloc::AllocError;
 
