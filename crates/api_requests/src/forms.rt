@@ -1,27 +1,41 @@
 //! What a query asks.
-ghost use Rattle.std.specs.Prelude.{◌≡◌, IfOk, option_map, string_bytes};
+ghost use Rattle.std.specs.Prelude.{◌≡◌, IfOk, bytes_eq, option_map, string_bytes};
 ghost use Rattle.form_urlencoded.specs.Form.{raw_pairs};
-ghost use Rattle.api_requests.specs.Forms.{key_in, limit_in, page_in, presence_in, told_after_in, told_in, told_key_in, told_limit_in, told_topic_in, topic_in, value_of};
+ghost use Rattle.api_requests.specs.Forms.{key_in, limit_in, page_in, presence_in, told_after_in, told_in, told_key_in, told_limit_in, text_of, told_topic_in, topic_in, value_of};
 ghost use Rattle.api_requests.specs.Steps.{Gives};
 
 use crate::asked::Asked;
 use crate::fault::RequestFault;
 use fast_float::Numeral;
-use form_urlencoded::parse;
+use form_urlencoded::{decode, raw_pairs};
 use presence_base::{Key, Topic};
 use std::alloc::{AllocError, Global};
 
 /// How many topics a page has at most, and as many where nothing is said of it.
 pub const MAX_PAGE: u64 = 1_000;
 
+// What a name or a value stands for.
+fn text_of(alloc: Global, bytes: &[u8]) -> Result<String, AllocError>
+    ensures { IfOk result (λ s. string_bytes s ≡ text_of bytes.now) }
+{
+    decode(alloc, bytes)?.into_owned(alloc)
+}
+
+// Whether a name stands for this one.
+fn is_named(alloc: Global, found: &[u8], name: &str) -> Result<bool, AllocError>
+    ensures { IfOk result (λ b. b ≡ bytes_eq (text_of found.now) name.now) }
+{
+    let found = text_of(alloc, found)?;
+    Ok(found.as_str() == name)
+}
+
 // The value of the first pair of this name.
 fn value_in(alloc: Global, query: &str, name: &str) -> Result<Option<String>, AllocError>
     ensures { IfOk result (λ o. option_map string_bytes o ≡ value_of name.now (raw_pairs query.now)) }
 {
-    for pair in parse(alloc, query.as_bytes()) {
-        let (found, value) = pair?;
-        if found.as_str() == name {
-            return Ok(Some(value.into_owned(alloc)?));
+    for (found, value) in raw_pairs(query.as_bytes()) {
+        if is_named(alloc, found, name)? {
+            return Ok(Some(text_of(alloc, value)?));
         }
     }
     Ok(None)
