@@ -1,4 +1,5 @@
 //! Connections of backends.
+use api_requests::MAX_BODY_BYTES;
 use http_server::{Config, Connection, Service};
 use std::alloc::{AllocError, Global};
 use std::hash::RandomState;
@@ -13,9 +14,6 @@ const SILENT_MILLISECONDS: u64 = 30_000;
 
 /// So many reads and writes of one connection are a turn.
 const MAX_STEPS: u32 = 16;
-
-/// As many bytes as a body may have.
-const MAX_BODY_BYTES: usize = 65_536;
 
 // What came of a step.
 #[derive(Clone, Copy, PartialEq, Eq)]
