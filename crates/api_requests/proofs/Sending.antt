@@ -23,7 +23,7 @@ use Rattle.api_requests.specs.declared.request.Request.{Request}
 use Rattle.api_requests.proofs.Steps.{bind_ok, if_ok, unless_ok}
 
 both : (b c : Bool) → b ≡ true → c ≡ false → IsTrue (b && not c)
-both true false p q = tt
+both true false p q = refl
 both true true p q = absurd (cc)
 both false c p q = absurd (cc)
 
@@ -37,7 +37,10 @@ taken (Some d) p is =
     let P : Data → Type 0 = λ x. IsTrue (is_payload x) in
     subst P same (both (nat_le (depth d) MAX_PAYLOAD_DEPTH) (has_float d) shallow.0 whole.0)
 
-within : (x y : Asked) → SendsWithin x → Ok {E = RequestFault} x ≡ Ok y → SendsWithin y
+abbrev good : Asked → Result Asked RequestFault
+good x = Ok x
+
+within : (x y : Asked) → SendsWithin x → good x ≡ Ok y → SendsWithin y
 within x y sends is = let same : x ≡ y = cc in subst SendsWithin same sends
 
 one : (d : Data) (a : Asked) → one_in d ≡ Ok a → SendsWithin a
