@@ -47,13 +47,13 @@ one : (d : Data) (a : Asked) → one_in d ≡ Ok a → SendsWithin a
 one d a is =
     let topic = bind_ok (topic_told (get (codes "topic") d)) _ a is in
     let payload = bind_ok (payload_told (get (codes "payload") d)) _ a topic.2 in
-    within (Publish topic.0 payload.0) a (taken _ _ payload.1) payload.2
+    within (Publish topic.0 payload.0) a (taken (get (codes "payload") d) payload.0 payload.1) payload.2
 
 all : (d : Data) (ds : Items) (a : Asked) → all_in d ds ≡ Ok a → SendsWithin a
 all d ds a is =
     let topics = bind_ok (topics_in ds) _ a is in
     let payload = bind_ok (payload_told (get (codes "payload") d)) _ a topics.2 in
-    within (PublishAll topics.0 payload.0) a (taken _ _ payload.1) payload.2
+    within (PublishAll topics.0 payload.0) a (taken (get (codes "payload") d) payload.0 payload.1) payload.2
 
 published : (d : Data) (o : Option Data) (a : Asked) → by_topics d o ≡ Ok a → SendsWithin a
 published d None a is = one d a is

@@ -101,7 +101,7 @@ published_all_in os = ok_reply (codes "[" ++ (outcomes_text os ++ codes "]"))
 -- ---- topics
 
 -- `"room:a":{"rows":3,"subscribers":2}`
-abbrev pub counts_text : TopicCounts → List ℕ
+unfoldable pub counts_text : TopicCounts → List ℕ
 counts_text c = quoted c.topic ++ (codes ":{\"rows\":" ++ (decimal c.rows
     ++ (codes ",\"subscribers\":" ++ (decimal c.subscribers ++ codes "}"))))
 

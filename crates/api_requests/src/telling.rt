@@ -74,6 +74,7 @@ pub fn published_all(alloc: Global, outcomes: &[Outcome]) -> Result<Reply, Alloc
 }
 
 // Writes a topic with its counts.
+#[tactic(auto, unfolding(crate::specs::Replies::counts_text))]
 fn push_counts(alloc: Global, text: &mut String, counts: &TopicCounts) -> Result<(), AllocError>
     ensures { OnOk result (string_bytes text.new ≡ string_bytes text.old ++ counts_text counts.now) }
 {
