@@ -22,6 +22,7 @@ use presence_base::{NodeName, Replica};
 use shard_pool::{Gate, Lanes, Pool};
 use std::io;
 use std::net::{Net, SocketAddr, TcpListener, TcpStream, ToSocketAddrs};
+use std::rt::Files;
 use std::sync::{Arc, Wait};
 use std::time::{Clock, Duration};
 
@@ -72,8 +73,8 @@ impl Drop for Dialler {
 }
 
 impl Dialler {
-    // What is said of its links, and where it is kept.
-    fn place(&self) -> Place<'_> {
+    /// What is said of its links, and where it is kept.
+    pub(crate) fn place(&self) -> Place<'_> {
         Place {
             words: self.place.as_str(),
             page: self.place.as_str(),
@@ -192,7 +193,7 @@ fn say<R, G, L, W>(
     line: &Line,
 ) -> Result<Said, LinkEnd>
 where
-    R: Wait + Clock + Print + Eprint,
+    R: Wait + Clock + Files + Print + Eprint,
     G: Gate,
     L: Lanes,
     W: Wakes,
@@ -234,7 +235,7 @@ fn say_known<R, G, L, W>(
     other: &Replica,
 ) -> Result<(), LinkEnd>
 where
-    R: Wait + Clock + Print + Eprint,
+    R: Wait + Clock + Files + Print + Eprint,
     G: Gate,
     L: Lanes,
     W: Wakes,
@@ -249,8 +250,8 @@ where
     Ok(())
 }
 
-// The stream to the node that is dialled. Where nobody answers, the next hello is of this form.
-fn stream_to<'a, R>(
+/// The stream to the node that is dialled. Where nobody answers, the next hello is of this form.
+pub(crate) fn stream_to<'a, R>(
     rt: &'a R,
     links: &'a Links,
     dialler: &Dialler,
@@ -360,7 +361,7 @@ fn send_beat<R, G, L, W>(
     beat: &Line,
 ) -> Result<(), LinkEnd>
 where
-    R: Wait + Clock + Print + Eprint,
+    R: Wait + Clock + Files + Print + Eprint,
     G: Gate,
     L: Lanes,
     W: Wakes,
@@ -384,7 +385,7 @@ fn send_all<R, G, L, W>(
     cuts: &[(u32, Arc<Delta>)],
 ) -> Result<(), Broken>
 where
-    R: Wait + Clock + Print + Eprint,
+    R: Wait + Clock + Files + Print + Eprint,
     G: Gate,
     L: Lanes,
     W: Wakes,
@@ -414,7 +415,7 @@ fn send_more<R, G, L, W>(
     cuts: &[(u32, Arc<Delta>)],
 ) -> Result<(), Broken>
 where
-    R: Wait + Clock + Print + Eprint,
+    R: Wait + Clock + Files + Print + Eprint,
     G: Gate,
     L: Lanes,
     W: Wakes,
@@ -566,7 +567,7 @@ impl<'a, R: Clock> State<'a, R> {
         cuts: &[(u32, Arc<Delta>)],
     )
     where
-        R: Wait + Clock + Print + Eprint,
+        R: Wait + Clock + Files + Print + Eprint,
         G: Gate,
         L: Lanes,
         W: Wakes,
@@ -589,7 +590,7 @@ impl<'a, R: Clock> State<'a, R> {
         cuts: &[(u32, Arc<Delta>)],
     )
     where
-        R: Wait + Clock + Print + Eprint,
+        R: Wait + Clock + Files + Print + Eprint,
         G: Gate,
         L: Lanes,
         W: Wakes,

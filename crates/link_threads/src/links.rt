@@ -5,17 +5,22 @@ use crate::book::{Begun, Book};
 use crate::incoming::Waiting;
 use crate::keyed::LinkKeys;
 use crate::reading::Readers;
+use crate::shouts::Shouts;
 use crate::tallies::{LinkTallies, Tallies};
 use delta_range::Delta;
 use link_rules::{Life, LinkEnd, LinkWarning, down_line, up_line, warning_line};
 use link_streams::Stopping;
 use node_links::begins_anew;
+use node_lives::LifeFile;
 use node_log::{Level, LogFormat, say_line};
 use node_system::Bell;
 use node_threads::Mailbox;
 use orswot_core::Form;
-use presence_base::{NodeName, Replica};
-use std::alloc::Global;
+use presence_base::{NodeName, Replica, Topic};
+use presence_journal::Payload;
+use std::alloc::{AllocError, Global};
+use std::collections::BTreeSet;
+use std::rt::Files;
 use std::sync::atomic::{AtomicBool, AtomicU64, Ordering};
 use std::sync::{Arc, Mutex, Wait};
 use std::time::Clock;
@@ -27,6 +32,15 @@ pub(crate) type Cuts = Mailbox<Arc<Delta>>;
 pub trait Wakes {
     /// Lets all clients be looked at.
     fn look(&self);
+
+    /// Lets those clients be looked at that have joined one of these topics.
+    fn tell_of<R: Wait>(&self, rt: &R, topics: &Arc<BTreeSet<Topic>>);
+
+    /// What is given to clients in the place of what another node shouted, where that isn't the same.
+    fn of_another(&self, alloc: Global, payload: &Payload) -> Result<Option<Payload>, AllocError>;
+
+    /// Whether shouts of other nodes may be given to clients now.
+    fn takes_shouts(&self) -> bool;
 }
 
 /// How a link is called, and under which place is kept what was said of it.
@@ -69,6 +83,10 @@ pub struct Links {
     pub(crate) tallies: Tallies,
     /// The keys of which both ends of a link show that they have one in common, if they are to.
     pub(crate) keys: Option<LinkKeys>,
+    /// The file that keeps the life under which the node is, if one does.
+    pub(crate) kept: Option<LifeFile>,
+    /// By which shouts go and come, where they go across nodes.
+    pub(crate) shouts: Option<Shouts>,
     ghost some: { 1 ≤ shards },
 }
 
@@ -93,6 +111,8 @@ impl Drop for Links {
             has_met,
             tallies,
             keys,
+            kept,
+            shouts,
         } = self;
         drop(life);
         drop(mailboxes);
@@ -108,6 +128,8 @@ impl Drop for Links {
         drop(has_met);
         drop(tallies);
         drop(keys);
+        drop(kept);
+        drop(shouts);
     }
 }
 
@@ -126,6 +148,18 @@ impl Links {
         self.tallies.read(self.dialled.len() as u64)
     }
 
+    /// By which shouts go and come, where they go across nodes.
+    pub fn shouts(&self) -> Option<&Shouts> {
+        self.shouts.as_ref()
+    }
+
+    /// Sessions of this node made so many shouts more, which others are told of where they go across nodes.
+    pub fn has_shouted<R: Wait>(&self, rt: &R, shouts: u64) {
+        if let Some(shared) = &self.shouts {
+            shared.has_said(rt, shouts);
+        }
+    }
+
     pub(crate) fn is_stopped(&self) -> bool {
         self.stopping.is_stopped()
     }
@@ -140,6 +174,9 @@ impl Links {
         self.bell.ring();
         for mailbox in self.mailboxes.iter() {
             mailbox.ring();
+        }
+        if let Some(shouts) = &self.shouts {
+            shouts.ring(rt);
         }
     }
 
@@ -156,6 +193,29 @@ impl Links {
         }
         let mut life = self.life.lock(rt);
         *life = life.hears_of(incarnation);
+    }
+
+    // Says that the file can't be written that keeps the node's life.
+    fn tell_unkept<R: Clock + Eprint>(&self, rt: &R, file: &LifeFile) {
+        let path = file.path.as_str();
+        let line = format!(in self.alloc;
+            "--state '{path}': the file can't be written: behind a crash other nodes show the rows of before for 30 seconds"
+        );
+        if let Ok(line) = line {
+            self.say(rt, Level::Warn, line.as_str());
+        }
+    }
+
+    /// Keeps the incarnation under which the node goes on, if there is a file for it, so that the life behind this one begins above
+    /// it, and says that this one is over. Where it can't be written that is said, and the node goes on.
+    pub(crate) fn keep<R: Files + Clock + Eprint>(&self, rt: &R, name: NodeName, incarnation: u64) {
+        let Some(file) = &self.kept else {
+            return;
+        };
+        let life = Replica { name, incarnation };
+        if file.keep(rt, self.alloc, &life).is_err() {
+            self.tell_unkept(rt, file);
+        }
     }
 
     /// Beats that were posted and not taken are never sent.

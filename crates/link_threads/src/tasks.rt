@@ -1,7 +1,9 @@
 //! What each of the threads of links does.
-ghost use Rattle.std.specs.Prelude.{◌≡◌, ◌≤◌, [], Some, vec_len, string_bytes, IfOk, OnOk};
+ghost use Rattle.std.specs.Prelude.{◌≡◌, ◌≤◌, [], Some, vec_len, string_bytes, option_map, IfOk, OnOk};
 ghost use Rattle.node_links.specs.Exchanges.{form_told as form_of_version};
 ghost use Rattle.link_threads.specs.Tasks.{AreFirst, Dials};
+ghost use Rattle.link_lines.specs.declared.lines.Line.TheVariants.{PermDown};
+ghost use Rattle.link_rules.specs.Lives.{first_line};
 ghost use Rattle.link_rules.specs.declared.words.TheConstants.{MAX_LINKS};
 
 use crate::book::Book;
@@ -11,16 +13,19 @@ use crate::links::{Links, Wakes};
 use crate::reading::{Readers, read_long};
 use crate::runtime::LinkRuntime;
 use crate::serving::serve_links;
+use crate::shouting::tell_one;
+use crate::shouts::{PeerShouts, Shouts};
 use crate::tallies::Tallies;
 use crate::ticking::tick;
 use hmac_keys::Keys;
 use link_rules::{Life, MAX_LINKS};
 use link_streams::{Clerk, Stopping};
 use node_links::form_told;
+use node_lives::{LifeFile, NewLife};
 use node_log::LogFormat;
 use node_system::{Bell, Watch};
 use node_threads::Mailbox;
-use presence_base::{NodeName, Replica};
+use presence_base::NodeName;
 use shard_pool::{Gate, Lanes, Pool};
 use std::alloc::{AllocError, Global};
 use std::io;
@@ -41,6 +46,8 @@ pub enum LinkTask {
     Serve,
     /// Dials another node.
     Dial(Dialler),
+    /// Dials another node too, and tells it what is shouted here.
+    Tell(Dialler),
 }
 
 impl Drop for LinkTask {
@@ -49,6 +56,7 @@ impl Drop for LinkTask {
             LinkTask::Tick | LinkTask::Read(_) | LinkTask::Serve => {}
             LinkTask::Attend(door) => drop(door),
             LinkTask::Dial(dialler) => drop(dialler),
+            LinkTask::Tell(dialler) => drop(dialler),
         }
     }
 }
@@ -72,6 +80,7 @@ impl LinkTask {
             LinkTask::Read(number) => read_long(rt, links, number),
             LinkTask::Serve => serve_links(rt, links, pool, wakes),
             LinkTask::Dial(dialler) => dial_one(rt, links, pool, wakes, &dialler),
+            LinkTask::Tell(dialler) => tell_one(rt, links, pool, wakes, &dialler),
         }
     }
 }
@@ -108,9 +117,24 @@ fn dialler_of(
     })
 }
 
+// The thread that tells a node what is shouted here.
+fn teller_of(
+    alloc: Global,
+    number: usize,
+    name: NodeName,
+    host: &str,
+    port: u16,
+) -> Result<Dialler, AllocError> {
+    let mut dialler = dialler_of(alloc, number, name, host, port)?;
+    let place = dialler.place.as_str();
+    let words = format!(in alloc; "of shouts {place}")?;
+    dialler.place = words;
+    Ok(dialler)
+}
+
 impl LinkTasks {
     ghost use Rattle.std.specs.Prelude.{◌≡◌, Some};
-    ghost use Rattle.link_threads.specs.Tasks.{AreButKeys};
+    ghost use Rattle.link_threads.specs.Tasks.{AreButKept, AreButKeys};
 
     /// What is shared, and what each thread does.
     pub fn into_parts(self) -> (Links, Vec<LinkTask>)
@@ -128,6 +152,44 @@ impl LinkTasks {
         ensures rest { AreButKeys self.old self.new }
     {
         self.links.keys = Some(keys);
+    }
+
+    /// This file keeps the life under which the node is, from the next one on.
+    pub fn keeps(&mut self, file: LifeFile)
+        ensures file { self.new.links.kept ≡ Some file }
+        ensures shards { self.new.links.shards ≡ self.old.links.shards }
+        ensures rest { AreButKept self.old self.new }
+    {
+        self.links.kept = Some(file);
+    }
+
+    /// Shouts go across nodes: of what others tell so many are taken a second. The number is the incarnation under which this
+    /// process began.
+    pub fn shares_shouts(&mut self, alloc: Global, journal: u64, most: u32)
+        ensures shards { self.new.links.shards ≡ self.old.links.shards }
+        ensures tasks { self.new.tasks ≡ self.old.tasks }
+        ensures mailboxes { self.new.links.mailboxes ≡ self.old.links.mailboxes }
+    {
+        self.links.shouts = Some(Shouts::new(alloc, journal, most));
+    }
+
+    /// Tells the node of this name what is shouted here, at this host and port, where shouts go across nodes.
+    pub fn tell(
+        &mut self,
+        alloc: Global,
+        name: NodeName,
+        host: &str,
+        port: u16,
+    ) -> Result<(), AllocError>
+        ensures shards { self.new.links.shards ≡ self.old.links.shards }
+    {
+        let Some(shouts) = &mut self.links.shouts else {
+            return Ok(());
+        };
+        let dialler = teller_of(alloc, shouts.peers.len(), name, host, port)?;
+        shouts.peers.push(PeerShouts::new(name))?;
+        self.tasks.push(LinkTask::Tell(dialler))?;
+        Ok(())
     }
 
     /// Dials the node of this name too, at this host and port. Its long lines are read by a thread of their own.
@@ -187,12 +249,24 @@ fn first_tasks(alloc: Global, door: LinkDoor) -> Result<Vec<LinkTask>, AllocErro
 /// A node as it says hello on its links.
 #[derive(Clone, Copy)]
 pub struct LinkNode {
-    pub own: Replica,
+    /// The life that it begins.
+    pub life: NewLife,
     pub shards: u32,
     /// The highest version of links that it speaks.
     pub version: u32,
     /// In which format it says what becomes of links.
     pub format: LogFormat,
+}
+
+// The life of the node as its links see it when they begin: where the one before it is known, they say first that it is over.
+fn first_life(life: NewLife) -> Life
+    ensures own { result.own ≡ life.own }
+    ensures first { first_line result ≡ option_map PermDown life.before }
+{
+    Life {
+        before: life.before,
+        ..Life::first(life.own)
+    }
 }
 
 /// What the threads of links of this node share, and what each of them does: links come in at this listening socket, where
@@ -220,7 +294,7 @@ pub fn tasks_for<R: Net>(
     let links = Links {
         alloc,
         format: node.format,
-        life: Mutex::new(Life::first(node.own)),
+        life: Mutex::new(first_life(node.life)),
         shards: node.shards,
         speaks: form_told(Some(u64::from(node.version))),
         mailboxes: Vec::new(alloc),
@@ -236,6 +310,8 @@ pub fn tasks_for<R: Net>(
         has_met: AtomicBool::new(false),
         tallies: Tallies::new(),
         keys: None,
+        kept: None,
+        shouts: None,
     };
     Ok(LinkTasks { links, tasks })
 }

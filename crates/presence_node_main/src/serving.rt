@@ -2,11 +2,14 @@
 
 mod belongings;
 mod fault;
+mod input;
 mod key_files;
+mod orders;
 mod pieces;
 mod place;
 mod running;
 mod secrets;
+mod state_file;
 mod stopping;
 
 pub(crate) use key_files::KeyFile;

@@ -43,6 +43,8 @@ pub enum UsageCause {
     TopicRows,
     /// The bytes of a topic are no number from `MIN_TOPIC_BYTES` to `MAX_TOPIC_BYTES`.
     TopicBytes,
+    /// The grace is no number up to `MAX_GRACE`.
+    Grace,
     /// What is logged is none of the words for it.
     Log,
     /// How it is logged is none of the words for it.
@@ -51,6 +53,16 @@ pub enum UsageCause {
     MetricsPort,
     /// A name of an event is empty or too long, or there are too many.
     Event,
+    /// The port of backends is no number from 1 to 65535.
+    ApiPort,
+    /// The port of backends is given without a file of keys, or the other way round.
+    ApiKeys,
+    /// The workers leave no seat to backends.
+    Seats,
+    /// How many shouts links may bring is no number from 1 to `MAX_LINK_SHOUTS`.
+    LinkShouts,
+    /// It is given where links bring none.
+    ShoutsAcross,
     /// No file of keys is given.
     KeyFile,
     /// The time that a token is to last is none, or more than `MAX_LASTS`.

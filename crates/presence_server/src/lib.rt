@@ -7,6 +7,7 @@
 
 mod bench;
 mod caller;
+mod desk;
 mod door;
 mod draining;
 mod ends;
@@ -15,6 +16,7 @@ mod following;
 mod growth;
 mod key_ring;
 pub mod laws;
+mod letting_go;
 mod load;
 mod neighbours;
 mod place;
@@ -23,11 +25,15 @@ mod reasons;
 mod received;
 mod runtime;
 mod server;
+mod shout_numbers;
+mod shouts_in;
+mod turn_ports;
 
 pub use bench::Bench;
+pub use desk::{API_LISTENER, Desk};
 pub use door::{Door, DoorLimits, Entrance, Entries, LISTENER, METRICS_LISTENER};
 pub use key_ring::{KeyRing, OwnKeys};
 pub use neighbours::AddressLimits;
-pub use place::{Workplace, seats_of};
+pub use place::{Post, Workplace, seats_of};
 pub use runtime::ServeRuntime;
 pub use server::{Server, WorkerMailbox};

@@ -3,10 +3,11 @@ ghost use Rattle.std.specs.Prelude.{◌<◌};
 
 use crate::reasons::{given_up_by, told_of};
 use crate::server::Server;
+use crate::shout_numbers::add_shouts;
 use link_streams::time_behind;
 use link_threads::Links;
 use node_system::{max_files, open_files, resident_bytes};
-use serve_handshakes::{Answer, GivenUp, Tells};
+use serve_handshakes::{Answer, GivenUp, Tells, Wellness};
 use serve_metrics::{LinksTold, ProcessTold, ShardsTold, metrics_text};
 use shard_pool::Lanes;
 use std::alloc::{AllocError, Global};
@@ -85,11 +86,18 @@ impl<'a, 'b, R: Wait + Clock + Files + Eprint, H, L: Lanes> Tells for Pulse<'a, 
         let shards = shards_of(alloc, self.rt, self.server)?;
         let links = links_of(&self.server.links);
         let process = process_of(self.rt, self.server);
-        metrics_text(alloc, &self.server.counts.told(), &shards, &links, &process)
+        let text = metrics_text(alloc, &self.server.counts.told(), &shards, &links, &process)?;
+        add_shouts(alloc, text, self.server.links.shouts())
     }
 
-    fn is_well(&self) -> bool {
-        !self.server.memory.is_lacking(time_behind(self.rt, 0))
+    fn wellness(&self) -> Wellness {
+        if self.server.grace.has_begun() {
+            Wellness::Draining
+        } else if self.server.memory.is_lacking(time_behind(self.rt, 0)) {
+            Wellness::Unwell
+        } else {
+            Wellness::Well
+        }
     }
 
     fn answered(&self, answer: Answer, address: &IpAddr) {

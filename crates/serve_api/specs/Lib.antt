@@ -1,0 +1,6 @@
+pub mod Reading
+pub mod Filling
+pub mod Sending
+pub mod Showing
+pub mod Answering
+pub mod Reaching
