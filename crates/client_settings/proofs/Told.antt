@@ -1,9 +1,10 @@
 -- What becomes of texts, one after another.
-use Rattle.std.proofs.Common.{◌≡◌, ℕ, List, [], ◌∷◌, ◌++◌, map, Option, Some, None, String, string_bytes, refl, sym, ap, ◌∙◌}
+use Rattle.std.proofs.Common.{◌≡◌, ℕ, Bool, true, false, ◌||◌, List, [], ◌∷◌, ◌++◌, map, Option, Some, None, String, string_bytes, refl, sym, ap, ◌∙◌}
 use Rattle.std.specs.Global.{Global}
+use Rattle.std.specs.List.{list_any}
 use Rattle.std.proofs.lemmas.List.{map-append, append-nil}
 use Rattle.client_settings.specs.Names.{Names}
-use Rattle.client_settings.specs.Telling.{all_told_by, told_text, with_told}
+use Rattle.client_settings.specs.Telling.{all_told_by, ends_as_kept, told_text, with_told}
 
 with_more : (o : Option (List ℕ)) (xs ys : List (List ℕ)) → with_told o (xs ++ ys) ≡ with_told o xs ++ ys
 with_more None xs ys = refl
@@ -40,3 +41,19 @@ left_out given pid texts told text before is =
     sym (append-nil (map string_bytes told))
     ∙ (with_one given pid (map string_bytes texts) (map string_bytes told) (string_bytes text) None before is
     ∙ ap (all_told_by given pid) (sym (map-append string_bytes texts (text ∷ []))))
+
+-- ---- texts of which none ends as that of a shout whose payload isn't kept as it was sent
+
+neither : (a b : Bool) → (a || b) ≡ false → (a ≡ false) × (b ≡ false)
+neither false b isnt = (refl, isnt)
+neither true b isnt = absurd (cc)
+
+alike : (given : Names) (pid : ℕ) (text : List ℕ) → ends_as_kept text ≡ false → told_text given pid text ≡ Some text
+unfolding told_text
+alike given pid text isnt = rw isnt refl
+
+pub told_alike : (given : Names) (pid : ℕ) (texts : List (List ℕ)) → list_any ends_as_kept texts ≡ false → all_told_by given pid texts ≡ texts
+told_alike given pid [] isnt = refl
+told_alike given pid (text ∷ texts) isnt =
+    let parts = neither (ends_as_kept text) (list_any ends_as_kept texts) isnt in
+    rw (alike given pid text parts.0, told_alike given pid texts parts.1) refl

@@ -19,6 +19,9 @@ use Rattle.client_settings.specs.declared.settings.Settings.{Settings}
 abbrev pub kept_ending : List ℕ
 kept_ending = 44 ∷ 34 ∷ 92 ∷ 117 ∷ 48 ∷ 48 ∷ 48 ∷ 48 ∷ 34 ∷ 93 ∷ 93 ∷ []
 
+abbrev pub ends_as_kept : List ℕ → Bool
+ends_as_kept text = ends_with ◌==◌ text kept_ending
+
 abbrev pub is_pid : Option ℕ → ℕ → Bool
 is_pid None pid = false
 is_pid (Some sender) pid = sender == pid
@@ -39,7 +42,7 @@ tells_message given pid text (Ok m) =
 -- what becomes of a text where there are events of one's own
 unfoldable pub told_text : Names → ℕ → List ℕ → Option (List ℕ)
 told_text given pid text =
-    if ends_with ◌==◌ text kept_ending then tells_message given pid text (decoded the_limits.FRAME text) else Some text
+    if ends_as_kept text then tells_message given pid text (decoded the_limits.FRAME text) else Some text
 
 abbrev pub with_told : Option (List ℕ) → List (List ℕ) → List (List ℕ)
 with_told None rest = rest

@@ -1,12 +1,13 @@
 //! What a client gets of its session's texts.
 ghost use Rattle.std.specs.Prelude.{◌≡◌, false, map, Ok, IfOk, string_bytes, option_map};
+ghost use Rattle.std.specs.List.{list_any};
 ghost use Rattle.serde_json.specs.View.{view};
 ghost use Rattle.serde_json.specs.Written.{has_float};
 ghost use Rattle.phx_message.specs.Making.{broadcast_of};
 ghost use Rattle.channel_rules.specs.Said.{text_of};
 ghost use Rattle.client_settings.specs.Meaning.{IsPlain};
 ghost use Rattle.client_settings.specs.Kept.{seen_told, told_of};
-ghost use Rattle.client_settings.specs.Telling.{all_told_by, events_told, tells, told_by, told_text as told_of_text, with_told};
+ghost use Rattle.client_settings.specs.Telling.{all_told_by, ends_as_kept, events_told, tells, told_by, told_text as told_of_text, with_told};
 
 use crate::events::OwnEvents;
 use crate::kept::{Told, told_by};
@@ -68,6 +69,13 @@ fn told_of_shout(
     }
 }
 
+// Whether a text ends as that of a shout whose payload isn't kept as it was sent.
+fn ends_as_kept(text: &str) -> bool
+    ensures { result ≡ ends_as_kept text.now }
+{
+    text.ends_with(KEPT_ENDING)
+}
+
 // What becomes of a text.
 #[tactic(auto, unfolding(crate::specs::Telling::told_text))]
 fn told_text(
@@ -78,7 +86,7 @@ fn told_text(
 ) -> Result<Option<String>, AllocError>
     ensures { IfOk result (λ o. option_map string_bytes o ≡ told_of_text events.now pid (string_bytes text)) }
 {
-    if !text.as_bytes().ends_with(KEPT_ENDING.as_bytes()) {
+    if !ends_as_kept(text.as_str()) {
         return Ok(Some(text));
     }
     match decode(alloc, text.as_str(), Limits::FRAME) {
@@ -92,6 +100,18 @@ fn told_text(
         Err(MessageFault::OutOfMemory) => Err(AllocError),
         Err(_) => Ok(Some(text)),
     }
+}
+
+// Whether one of these texts ends so.
+fn any_ends_as_kept(texts: &[String]) -> bool
+    ensures { result ≡ list_any ends_as_kept (map string_bytes texts.now) }
+{
+    for text in texts {
+        if ends_as_kept(text.as_str()) {
+            return true;
+        }
+    }
+    false
 }
 
 // What becomes of texts.
@@ -112,6 +132,23 @@ fn all_told(
     Ok(told)
 }
 
+// What becomes of texts. Where none ends so all stay as they are, and no memory is asked for.
+#[tactic(auto, using(crate::proofs::Told::told_alike))]
+fn told_texts(
+    alloc: Global,
+    events: &OwnEvents,
+    pid: u64,
+    texts: Vec<String>,
+) -> Result<Vec<String>, AllocError>
+    ensures { IfOk result (λ told. map string_bytes told.items ≡ all_told_by events.now pid (map string_bytes texts.items)) }
+{
+    if any_ends_as_kept(texts.as_slice()) {
+        all_told(alloc, events, pid, texts)
+    } else {
+        Ok(texts)
+    }
+}
+
 impl Settings {
     /// What a client gets of these texts, whose session has this number. By default it gets them as they are, and no memory
     /// is asked for.
@@ -125,7 +162,7 @@ impl Settings {
         ensures plain { IsPlain self.now → result ≡ Ok texts }
     {
         let texts = match &self.events {
-            Some(events) => all_told(alloc, events, pid, texts)?,
+            Some(events) => told_texts(alloc, events, pid, texts)?,
             None => texts,
         };
         self.numbers.told(alloc, texts)

@@ -3,7 +3,7 @@ ghost use Rattle.std.specs.Prelude.{◌≡◌, ◌++◌, ◌∷◌, [], None, Ok
 ghost use Rattle.number_texts.specs.Marks.{become};
 ghost use Rattle.number_texts.specs.Allowed.{all_told, heard_text, numbers_where, told_text};
 
-use crate::marks::{marked, unmarked};
+use crate::marks::{any_may_have_mark, marked, unmarked};
 use std::alloc::{AllocError, Global};
 
 /// Which numbers the messages of clients may have.
@@ -60,14 +60,16 @@ impl Numbers {
         }
     }
 
-    /// What a client gets of a session's texts.
+    /// What a client gets of a session's texts. Where no mark stands in them, none is copied and no memory is asked for.
+    #[tactic(auto, using(crate::proofs::Found::told_as_they_are))]
     pub fn told(self, alloc: Global, texts: Vec<String>) -> Result<Vec<String>, AllocError>
         ensures told { IfOk result (λ told. map string_bytes told.items ≡ all_told self (map string_bytes texts.items)) }
         ensures whole { self ≡ Numbers.Whole → result ≡ Ok texts }
     {
         match self {
             Numbers::Whole => Ok(texts),
-            Numbers::Any => all_unmarked(alloc, texts),
+            Numbers::Any if any_may_have_mark(texts.as_slice()) => all_unmarked(alloc, texts),
+            Numbers::Any => Ok(texts),
         }
     }
 }

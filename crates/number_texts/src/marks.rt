@@ -1,11 +1,13 @@
 //! Texts that are marked, and unmarked.
-ghost use Rattle.std.specs.Prelude.{◌≡◌, ◌++◌, ◌∷◌, [], true, false, None, Ok, IfOk, OnOk, drop, string_bytes};
+ghost use Rattle.std.specs.Prelude.{◌≡◌, ◌++◌, ◌∷◌, [], true, false, None, Ok, IfOk, OnOk, drop, map, string_bytes};
+ghost use Rattle.std.specs.List.{list_all};
 ghost use Rattle.number_texts.specs.Marks.{become, has_mark, has_no_marks, marked_text, needs_no_marks, unmarked_text};
 ghost use Rattle.number_texts.specs.Changes.{Becomes, all_stay, change_text, changed_text, part_pieces};
 ghost use Rattle.number_texts.specs.Pieces.{joined};
 
 use crate::numbers::is_marked_number;
 use crate::pieces::{Part, first_part, is_before_colon};
+use memchr::memchr;
 use std::alloc::{AllocError, Global};
 
 /// What a marked text begins with: the character that no other spelling has.
@@ -38,11 +40,38 @@ fn has_mark(text: &str) -> bool
     text.as_bytes().starts_with(MARK.as_bytes())
 }
 
-// Whether a quoted text may begin with the mark. One search tells of most texts that none does.
-fn may_have_mark(text: &str) -> bool
+// Whether a text has a backslash, with which the mark begins: most have none, and no search is faster.
+#[tactic(auto, using(crate::proofs::Found::unless_backslash))]
+fn has_backslash(text: &str) -> bool
+    ensures { result ≡ false → has_no_marks text.now ≡ true }
+{
+    memchr(b'\\', text.as_bytes()).is_some()
+}
+
+// Whether a quote stands before the mark somewhere.
+fn has_quoted_mark(text: &str) -> bool
     ensures { result ≡ false → has_no_marks text.now ≡ true }
 {
     text.contains(QUOTED_MARK)
+}
+
+// Whether a quoted text may begin with the mark.
+fn may_have_mark(text: &str) -> bool
+    ensures { result ≡ false → has_no_marks text.now ≡ true }
+{
+    has_backslash(text) && has_quoted_mark(text)
+}
+
+/// Whether a quoted text may begin with the mark in one of these.
+pub(crate) fn any_may_have_mark(texts: &[String]) -> bool
+    ensures { result ≡ false → list_all has_no_marks (map string_bytes texts.now) ≡ true }
+{
+    for text in texts {
+        if may_have_mark(text.as_str()) {
+            return true;
+        }
+    }
+    false
 }
 
 // What stands behind the mark that a text begins with.
