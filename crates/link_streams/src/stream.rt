@@ -4,9 +4,10 @@ ghost use Rattle.link_streams.specs.Lines.{is_long_line};
 
 use crate::clerk::Clerk;
 use crate::stopping::{Stopping, time_behind};
+use memchr::memchr;
 use std::alloc::Global;
 use std::io;
-use std::io::{BufReader, ErrorKind, Read, Write};
+use std::io::{BufRead, BufReader, ErrorKind, Read, Write};
 use std::net::TcpStream;
 use std::sync::Wait;
 use std::sync::atomic::{AtomicU64, Ordering};
@@ -154,6 +155,15 @@ impl<R: Clock> Write for Patient<'_, R> {
     }
 }
 
+// The first of these bytes, so many at most, up to the line feed among them, which is the last.
+fn up_to_line_feed(bytes: &[u8], most: usize) -> &[u8] {
+    let bytes = &bytes[..bytes.len().min(most)];
+    match memchr(b'\n', bytes) {
+        Some(at) => &bytes[..at + 1],
+        None => bytes,
+    }
+}
+
 /// What became of a question.
 #[derive(Drop)]
 pub enum Asking<Q> {
@@ -232,23 +242,32 @@ impl<'a, R: Clock> LinkStream<'a, R> {
         self.left = LONG_LINE_BYTES;
     }
 
+    // The line is read from now on: an answer, where one was written, and of no more bytes than it may have.
+    fn begins_to_read(&mut self) -> io::Result<()> {
+        if self.is_writing {
+            self.awaits_answer();
+        }
+        if self.left == 0 {
+            return Err(io::Error::from(ErrorKind::InvalidData));
+        }
+        Ok(())
+    }
+
     /// Reads on: what a read brings of the next line, up to its line feed, which is the last of its bytes, or up to so many in
     /// all, or to the end. Whether nothing more of it comes.
     pub fn reads_on(&mut self, line: &mut Vec<u8>, most: usize) -> io::Result<bool> {
-        let mut byte = [0u8; 1];
-        for _ in line.len()..most {
-            if self.read(&mut byte)? == 0 {
-                return Ok(true);
-            }
-            line.push(byte[0])?;
-            if byte[0] == b'\n' {
-                return Ok(true);
-            }
-            if self.reader.buffer().is_empty() {
-                return Ok(false);
-            }
+        let room = most.saturating_sub(line.len());
+        if room == 0 {
+            return Ok(true);
         }
-        Ok(true)
+        self.begins_to_read()?;
+        let next = up_to_line_feed(self.reader.fill_buf()?, room.min(self.left));
+        let taken = next.len();
+        let is_whole = next.is_empty() || next.last() == Some(&b'\n');
+        line.extend_from_slice(next)?;
+        self.reader.consume(taken);
+        self.left = self.left.saturating_sub(taken);
+        Ok(is_whole || taken == room)
     }
 
     /// Asks the clerk about the line that was read, if it has nothing else to do within a look. Who asks waits for others that
@@ -289,12 +308,7 @@ impl<'a, R: Clock> LinkStream<'a, R> {
 
 impl<R: Clock> Read for LinkStream<'_, R> {
     fn read(&mut self, buf: &mut [u8]) -> io::Result<usize> {
-        if self.is_writing {
-            self.awaits_answer();
-        }
-        if self.left == 0 {
-            return Err(io::Error::from(ErrorKind::InvalidData));
-        }
+        self.begins_to_read()?;
         let read = self.reader.read(buf)?;
         self.left = self.left.saturating_sub(read);
         Ok(read)

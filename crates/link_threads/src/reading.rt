@@ -2,9 +2,9 @@
 ghost use Rattle.std.specs.Prelude.{◌≤◌};
 
 use crate::links::Links;
-use link_lines::{Hearer, Line, LinkFault};
+use link_lines::{Hearer, Line, LinkFault, MAX_LINE_BYTES};
 use link_streams::{Clerk, is_long};
-use node_links::read_line;
+use node_links::line_of_bytes;
 use std::alloc::Global;
 use std::io;
 use std::io::ErrorKind;
@@ -53,8 +53,12 @@ impl LineBytes {
 
     /// Reads it.
     pub(crate) fn read(&self, alloc: Global) -> LineRead {
-        let mut bytes = self.bytes.as_slice();
-        read_line(alloc, &mut bytes, self.hearer)
+        match self.bytes.split_last() {
+            None => Ok(None),
+            Some((b'\n', text)) => line_of_bytes(alloc, text, self.hearer).map(Some),
+            Some(_) if self.bytes.len() > MAX_LINE_BYTES => Err(LinkFault::LineTooLong),
+            Some(_) => Err(LinkFault::CutLine),
+        }
     }
 }
 

@@ -36,7 +36,7 @@ pub use dialling::{dial, exchange};
 pub use fault::DialFault;
 pub use forms::{begins_anew, form_told, next_form};
 pub use hearing::hear_bytes;
-pub use lines::{read_line, write_line};
+pub use lines::{line_of_bytes, read_line, write_line};
 pub use link::Link;
 pub use outcome::{Exchanged, Untold, UntoldSize};
 pub use peer::{End, Peer};

@@ -11,8 +11,8 @@ use std::alloc::Global;
 use std::io::{Read, Write};
 use std::str;
 
-// The line that these bytes are to a hearer.
-fn line_of_bytes(alloc: Global, bytes: &[u8], hearer: Hearer) -> Result<Line, LinkFault>
+/// The line that these bytes are to a hearer: a line's text without its line feed.
+pub fn line_of_bytes(alloc: Global, bytes: &[u8], hearer: Hearer) -> Result<Line, LinkFault>
     requires { 1 ≤ hearer.shards }
     ensures line { Answers result (line_in_bytes hearer bytes.now) }
     ensures faults { IfErr result (IsTextFault bytes.now) }
