@@ -2,7 +2,9 @@
 
 mod belongings;
 mod fault;
+mod input;
 mod key_files;
+mod orders;
 mod pieces;
 mod place;
 mod running;

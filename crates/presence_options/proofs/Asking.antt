@@ -10,7 +10,7 @@ use Rattle.clap.proofs.OnLiterals.{clap_on_literals}
 use Rattle.presence_options.specs.CommandLine.{program}
 use Rattle.presence_options.specs.Given.{AskFor, Calls, Chooses, ChoosesNone, HasCause, IsFor, IsHelpFor, IsNoHelp, Refused, RefusedFor, Refuses, ServeRefuses, TokenRefuses}
 use Rattle.presence_options.specs.declared.fault.UsageCause.{UsageCause}
-use Rattle.presence_options.specs.declared.fault.UsageCause.TheVariants.{Words, Name, Incarnation, Route, Port, LinkPort, Shards, Workers, LinkVersion, Peer, Origin, PerAddress, HandshakesPerSecond, PeerName, Proxy, LinkFrom, MemoryLimit, TopicRows, TopicBytes, Log, LogFormat, MetricsPort, Event, KeyFile, Lifetime}
+use Rattle.presence_options.specs.declared.fault.UsageCause.TheVariants.{Words, Name, Incarnation, Route, Port, LinkPort, Shards, Workers, LinkVersion, Peer, Origin, PerAddress, HandshakesPerSecond, PeerName, Proxy, LinkFrom, MemoryLimit, TopicRows, TopicBytes, Grace, Log, LogFormat, MetricsPort, Event, KeyFile, Lifetime}
 use Rattle.presence_options.specs.declared.fault.UsageFault.{UsageFault}
 use Rattle.presence_options.specs.declared.fault.UsageFault.TheVariants.{Usage, Memory}
 use Rattle.presence_options.specs.declared.options.Options.{Options}
@@ -133,6 +133,7 @@ chosen_refused c words m name rows (Err (Usage LinkFrom text)) is h met none = w
 chosen_refused c words m name rows (Err (Usage MemoryLimit text)) is h met none = why_refused c words m name rows MemoryLimit is h met none
 chosen_refused c words m name rows (Err (Usage TopicRows text)) is h met none = why_refused c words m name rows TopicRows is h met none
 chosen_refused c words m name rows (Err (Usage TopicBytes text)) is h met none = why_refused c words m name rows TopicBytes is h met none
+chosen_refused c words m name rows (Err (Usage Grace text)) is h met none = why_refused c words m name rows Grace is h met none
 chosen_refused c words m name rows (Err (Usage Log text)) is h met none = why_refused c words m name rows Log is h met none
 chosen_refused c words m name rows (Err (Usage LogFormat text)) is h met none = why_refused c words m name rows LogFormat is h met none
 chosen_refused c words m name rows (Err (Usage MetricsPort text)) is h met none = why_refused c words m name rows MetricsPort is h met none

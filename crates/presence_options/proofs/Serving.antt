@@ -2,7 +2,7 @@
 use Rattle.std.proofs.Common.{◌≡◌, ◌⊎◌, inl, inr, ℕ, List, IsTrue, codes, false, subst, sym}
 use Rattle.clap.specs.Words.{Row}
 use Rattle.presence_options.specs.Given.{AllArePeers, AreAllNames, AreFewOrigins, AreFewPatterns, AreHandshakes, AreLinkFrom, AreOtherPeers, AreProxies, IsFrugal, IsTold, IsUnnamed, IsUntold, IsWasteful, ArePeers, ArePorts, AreShards, AreWorkers, ChoosesNone, IsEdgeWrong, IsFor, IsLinkVersion, IsNamed, IsNode, IsPerAddress, IsServedWrong, IsTokenWrong, name_given, origins_given, patterns_given, peers_given}
-use Rattle.presence_options.specs.declared.fault.UsageCause.TheVariants.{Words, Name, Incarnation, Route, Port, LinkPort, Shards, Workers, LinkVersion, Peer, Origin, PerAddress, HandshakesPerSecond, PeerName, Proxy, LinkFrom, MemoryLimit, TopicRows, TopicBytes, Log, LogFormat, MetricsPort, Event, KeyFile, Lifetime}
+use Rattle.presence_options.specs.declared.fault.UsageCause.TheVariants.{Words, Name, Incarnation, Route, Port, LinkPort, Shards, Workers, LinkVersion, Peer, Origin, PerAddress, HandshakesPerSecond, PeerName, Proxy, LinkFrom, MemoryLimit, TopicRows, TopicBytes, Grace, Log, LogFormat, MetricsPort, Event, KeyFile, Lifetime}
 use Rattle.presence_options.specs.Limits.{AreRoutes, is_peer_name, numbered}
 use Rattle.presence_options.specs.declared.options.PeerOption.{PeerOption}
 use Rattle.presence_options.proofs.Patterns.{few_patterns}
@@ -79,6 +79,7 @@ edge_wrong rows (Usage LinkFrom text) node others wrong = (node, others, wrong)
 edge_wrong rows (Usage MemoryLimit text) node others wrong = (node, others, wrong)
 edge_wrong rows (Usage TopicRows text) node others wrong = (node, others, wrong)
 edge_wrong rows (Usage TopicBytes text) node others wrong = (node, others, wrong)
+edge_wrong rows (Usage Grace text) node others wrong = (node, others, wrong)
 edge_wrong rows (Usage Log text) node others wrong = (node, others, wrong)
 edge_wrong rows (Usage LogFormat text) node others wrong = (node, others, wrong)
 edge_wrong rows (Usage MetricsPort text) node others wrong = (node, others, wrong)
@@ -128,6 +129,7 @@ untold_edge rows (Usage LinkFrom text) proxies links frugal wrong = absurd wrong
 untold_edge rows (Usage MemoryLimit text) proxies links frugal wrong = (proxies, links, inr (inl (frugal, wrong)))
 untold_edge rows (Usage TopicRows text) proxies links frugal wrong = (proxies, links, inr (inl (frugal, wrong)))
 untold_edge rows (Usage TopicBytes text) proxies links frugal wrong = (proxies, links, inr (inl (frugal, wrong)))
+untold_edge rows (Usage Grace text) proxies links frugal wrong = (proxies, links, inr (inl (frugal, wrong)))
 untold_edge rows (Usage Log text) proxies links frugal wrong = (proxies, links, inr (inl (frugal, wrong)))
 untold_edge rows (Usage LogFormat text) proxies links frugal wrong = (proxies, links, inr (inl (frugal, wrong)))
 untold_edge rows (Usage MetricsPort text) proxies links frugal wrong = (proxies, links, inr (inl (frugal, wrong)))
@@ -156,6 +158,7 @@ wasteful_edge rows (Usage LinkFrom text) proxies links wrong = absurd wrong
 wasteful_edge rows (Usage MemoryLimit text) proxies links wrong = (proxies, links, inl wrong)
 wasteful_edge rows (Usage TopicRows text) proxies links wrong = (proxies, links, inl wrong)
 wasteful_edge rows (Usage TopicBytes text) proxies links wrong = (proxies, links, inl wrong)
+wasteful_edge rows (Usage Grace text) proxies links wrong = (proxies, links, inl wrong)
 wasteful_edge rows (Usage Log text) proxies links wrong = (proxies, links, inl wrong)
 wasteful_edge rows (Usage LogFormat text) proxies links wrong = (proxies, links, inl wrong)
 wasteful_edge rows (Usage MetricsPort text) proxies links wrong = (proxies, links, inl wrong)
@@ -186,6 +189,7 @@ unnamed rows (Usage LinkFrom text) proxies links frugal told wrong = absurd wron
 unnamed rows (Usage MemoryLimit text) proxies links frugal told wrong = absurd wrong
 unnamed rows (Usage TopicRows text) proxies links frugal told wrong = absurd wrong
 unnamed rows (Usage TopicBytes text) proxies links frugal told wrong = absurd wrong
+unnamed rows (Usage Grace text) proxies links frugal told wrong = absurd wrong
 unnamed rows (Usage Log text) proxies links frugal told wrong = absurd wrong
 unnamed rows (Usage LogFormat text) proxies links frugal told wrong = absurd wrong
 unnamed rows (Usage MetricsPort text) proxies links frugal told wrong = absurd wrong
@@ -225,6 +229,7 @@ serve_chosen name rows (Usage LinkFrom text) is wrong = inr (inl (is, wrong))
 serve_chosen name rows (Usage MemoryLimit text) is wrong = inr (inl (is, wrong))
 serve_chosen name rows (Usage TopicRows text) is wrong = inr (inl (is, wrong))
 serve_chosen name rows (Usage TopicBytes text) is wrong = inr (inl (is, wrong))
+serve_chosen name rows (Usage Grace text) is wrong = inr (inl (is, wrong))
 serve_chosen name rows (Usage Log text) is wrong = inr (inl (is, wrong))
 serve_chosen name rows (Usage LogFormat text) is wrong = inr (inl (is, wrong))
 serve_chosen name rows (Usage MetricsPort text) is wrong = inr (inl (is, wrong))
@@ -256,6 +261,7 @@ token_chosen name rows (Usage LinkFrom text) is wrong = absurd wrong
 token_chosen name rows (Usage MemoryLimit text) is wrong = absurd wrong
 token_chosen name rows (Usage TopicRows text) is wrong = absurd wrong
 token_chosen name rows (Usage TopicBytes text) is wrong = absurd wrong
+token_chosen name rows (Usage Grace text) is wrong = absurd wrong
 token_chosen name rows (Usage Log text) is wrong = absurd wrong
 token_chosen name rows (Usage LogFormat text) is wrong = absurd wrong
 token_chosen name rows (Usage MetricsPort text) is wrong = absurd wrong

@@ -71,10 +71,10 @@ token_app =
     (option_rule (codes "topics") Append))
     (option_rule (codes "for") Set)
 
--- and those of what clients may do, and of the files of keys
+-- and those of what clients may do, of the files of keys, and of the stop
 abbrev pub serve_app : App
 serve_app =
-    with_rule (with_rule (with_rule (with_rule (with_rule (with_rule (with_rule (with_rule watched_app
+    with_rule (with_rule (with_rule (with_rule (with_rule (with_rule (with_rule (with_rule (with_rule watched_app
     (flag_rule (codes "phoenix")))
     (flag_rule (codes "fractions")))
     (flag_rule (codes "match-joins")))
@@ -82,7 +82,8 @@ serve_app =
     (option_rule (codes "answered") Append))
     (option_rule (codes "to-others") Append))
     (option_rule (codes "token-keys") Set))
-    (option_rule (codes "link-keys") Set)
+    (option_rule (codes "link-keys") Set))
+    (option_rule (codes "grace") Set)
 
 -- the program itself, which is nothing without a command, and has a version
 abbrev pub top_app : App

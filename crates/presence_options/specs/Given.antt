@@ -21,7 +21,7 @@ use Rattle.presence_options.specs.Origins.{AreOrigins}
 use Rattle.presence_options.specs.declared.addresses.AddressRule.{AddressRule}
 use Rattle.presence_options.specs.declared.command_line.Edge.{Edge}
 use Rattle.presence_options.specs.declared.fault.UsageCause.{UsageCause}
-use Rattle.presence_options.specs.declared.fault.UsageCause.TheVariants.{Words, Name, Incarnation, Route, Port, LinkPort, Shards, Workers, LinkVersion, Peer, Origin, PerAddress, HandshakesPerSecond, PeerName, Proxy, LinkFrom, MemoryLimit, TopicRows, TopicBytes, Log, LogFormat, MetricsPort, Event, KeyFile, Lifetime}
+use Rattle.presence_options.specs.declared.fault.UsageCause.TheVariants.{Words, Name, Incarnation, Route, Port, LinkPort, Shards, Workers, LinkVersion, Peer, Origin, PerAddress, HandshakesPerSecond, PeerName, Proxy, LinkFrom, MemoryLimit, TopicRows, TopicBytes, Grace, Log, LogFormat, MetricsPort, Event, KeyFile, Lifetime}
 use Rattle.presence_options.specs.declared.fault.UsageFault.{UsageFault}
 use Rattle.presence_options.specs.declared.fault.UsageFault.TheVariants.{Usage, Memory}
 use Rattle.presence_options.specs.declared.options.Options.{Options}
@@ -40,7 +40,7 @@ use Rattle.presence_options.specs.declared.options.StdioOptions.{StdioOptions}
 use Rattle.presence_options.specs.declared.options.TokenOptions.{TokenOptions}
 use Rattle.presence_options.specs.declared.values.NumberRule.{NumberRule}
 use Rattle.presence_base.specs.declared.names.TheConstants.{MAX_SHARDS}
-use Rattle.presence_options.specs.declared.options.TheConstants.{LINK_PORT, MAX_EVENT_NAMES, MAX_HANDSHAKES_PER_SECOND, MAX_LASTS, MAX_LINK_FROM, MAX_LINK_VERSION, MAX_MEMORY, MAX_ORIGINS, MAX_PER_ADDRESS, MAX_PROXIES, MAX_TOPIC_BYTES, MAX_TOPIC_ROWS, MAX_WORKERS, MIN_MEMORY, MIN_TOPIC_BYTES, TOPIC_BYTES, TOPIC_ROWS}
+use Rattle.presence_options.specs.declared.options.TheConstants.{LINK_PORT, MAX_EVENT_NAMES, MAX_GRACE, MAX_HANDSHAKES_PER_SECOND, MAX_LASTS, MAX_LINK_FROM, MAX_LINK_VERSION, MAX_MEMORY, MAX_ORIGINS, MAX_PER_ADDRESS, MAX_PROXIES, MAX_TOPIC_BYTES, MAX_TOPIC_ROWS, MAX_WORKERS, MIN_MEMORY, MIN_TOPIC_BYTES, TOPIC_BYTES, TOPIC_ROWS}
 
 -- the number that a text's digits write
 abbrev pub number_in : Text → ℕ
@@ -127,6 +127,10 @@ topic_rows_given rows = first_of (codes "topic-rows") rows
 
 abbrev pub topic_bytes_given : List Row → Option Text
 topic_bytes_given rows = first_of (codes "topic-bytes") rows
+
+-- the text of the grace, if it is given
+abbrev pub grace_given : List Row → Option Text
+grace_given rows = first_of (codes "grace") rows
 
 -- the number that is given, or this one
 abbrev pub number_or : ℕ → Option Text → ℕ
@@ -345,6 +349,7 @@ pub record AreBudgetsGiven (rows : List Row) (b : Budgets) : Type 0 where
   pub memory : b.memory ≡ option_map number_in (memory_given rows)
   pub topic_rows : b.topic_rows ≡ number_or TOPIC_ROWS (topic_rows_given rows)
   pub topic_bytes : b.topic_bytes ≡ number_or TOPIC_BYTES (topic_bytes_given rows)
+  pub grace : b.grace ≡ number_or 0 (grace_given rows)
 
 -- and so is what an operator is told
 pub record AreReportsGiven (rows : List Row) (r : Reports) : Type 0 where
@@ -467,6 +472,7 @@ Refuses rows LinkFrom = ⊥
 Refuses rows MemoryLimit = ⊥
 Refuses rows TopicRows = ⊥
 Refuses rows TopicBytes = ⊥
+Refuses rows Grace = ⊥
 Refuses rows Log = ⊥
 Refuses rows LogFormat = ⊥
 Refuses rows MetricsPort = ⊥
@@ -563,6 +569,9 @@ AreTopicRows rows = IsUpTo MAX_TOPIC_ROWS (topic_rows_given rows)
 abbrev pub AreTopicBytes : List Row → Type 0
 AreTopicBytes rows = IsBetween MIN_TOPIC_BYTES MAX_TOPIC_BYTES (topic_bytes_given rows)
 
+abbrev pub IsGrace : List Row → Type 0
+IsGrace rows = IsBetween 0 MAX_GRACE (grace_given rows)
+
 -- and what an operator is told
 abbrev pub IsLog : List Row → Type 0
 IsLog rows = IsTrue (is_some (logged_in (log_given rows)))
@@ -574,14 +583,15 @@ abbrev pub IsMetricsPort : List Row → Type 0
 IsMetricsPort rows = IsUpTo 65535 (metrics_port_given rows)
 
 -- what everybody together may take is within its limits, or why it isn't: the memory is looked at first, then the rows of a
--- topic, and their bytes
+-- topic, their bytes, and the grace
 abbrev pub IsFrugal : List Row → Type 0
-IsFrugal rows = IsMemory rows × AreTopicRows rows × AreTopicBytes rows
+IsFrugal rows = IsMemory rows × AreTopicRows rows × AreTopicBytes rows × IsGrace rows
 
 abbrev pub WastefulFor : List Row → UsageCause → Type 0
 WastefulFor rows MemoryLimit = IsMemory rows → ⊥
 WastefulFor rows TopicRows = IsMemory rows × (AreTopicRows rows → ⊥)
 WastefulFor rows TopicBytes = IsMemory rows × AreTopicRows rows × (AreTopicBytes rows → ⊥)
+WastefulFor rows Grace = IsMemory rows × AreTopicRows rows × AreTopicBytes rows × (IsGrace rows → ⊥)
 WastefulFor rows cause = ⊥
 
 abbrev pub IsWasteful : List Row → UsageFault → Type 0

@@ -13,7 +13,7 @@ use Rattle.presence_options.specs.declared.options.PeerOption.{PeerOption}
 use Rattle.presence_options.specs.declared.options.StdioOptions.{StdioOptions}
 use Rattle.presence_options.specs.declared.options.ServeOptions.{ServeOptions}
 use Rattle.presence_base.specs.declared.names.TheConstants.{MAX_SHARDS}
-use Rattle.presence_options.specs.declared.options.TheConstants.{MAX_EVENT_BYTES, MAX_HANDSHAKES_PER_SECOND, MAX_LINK_FROM, MAX_LINK_VERSION, MAX_MEMORY, MAX_ORIGINS, MAX_PER_ADDRESS, MAX_PROXIES, MAX_TOPIC_BYTES, MAX_TOPIC_ROWS, MAX_WORKERS, MIN_MEMORY, MIN_TOPIC_BYTES}
+use Rattle.presence_options.specs.declared.options.TheConstants.{MAX_EVENT_BYTES, MAX_GRACE, MAX_HANDSHAKES_PER_SECOND, MAX_LINK_FROM, MAX_LINK_VERSION, MAX_MEMORY, MAX_ORIGINS, MAX_PER_ADDRESS, MAX_PROXIES, MAX_TOPIC_BYTES, MAX_TOPIC_ROWS, MAX_WORKERS, MIN_MEMORY, MIN_TOPIC_BYTES}
 use Rattle.presence_options.specs.declared.options.Options.{Options}
 use Rattle.presence_options.specs.declared.options.Options.TheVariants.{Help, Version, Bare, Stdio, Fold, Serve, Token}
 
@@ -62,6 +62,7 @@ pub record AreBudgets (b : Budgets) : Type 0 where
   pub memory : ForSome b.memory (IsFromTo MIN_MEMORY MAX_MEMORY)
   pub topic_rows : IsFrom1To MAX_TOPIC_ROWS b.topic_rows
   pub topic_bytes : IsFromTo MIN_TOPIC_BYTES MAX_TOPIC_BYTES b.topic_bytes
+  pub grace : b.grace ≤ MAX_GRACE
 
 -- and what stands beside the node itself
 pub record IsEdgeWithin (e : Edge) : Type 0 where

@@ -4,8 +4,8 @@ ghost use Rattle.clap.specs.Words.{rule_of};
 ghost use Rattle.presence_options.specs.CommandLine.{flag_rule, option_rule};
 
 use crate::help::{
-    ANSWERED_HELP, EVENT_HELP, EXPLAIN_HELP, FOR_HELP, FRACTIONS_HELP, HANDSHAKES_HELP, KEY_HELP,
-    LINK_FROM_HELP, LINK_KEYS_HELP, LINK_LISTEN_HELP, LINK_PORT_HELP, LINK_VERSION_HELP,
+    ANSWERED_HELP, EVENT_HELP, EXPLAIN_HELP, FOR_HELP, FRACTIONS_HELP, GRACE_HELP, HANDSHAKES_HELP,
+    KEY_HELP, LINK_FROM_HELP, LINK_KEYS_HELP, LINK_LISTEN_HELP, LINK_PORT_HELP, LINK_VERSION_HELP,
     LISTEN_HELP, LOG_FORMAT_HELP, LOG_HELP, MATCH_JOINS_HELP, MEMORY_HELP, METRICS_PORT_HELP,
     NAME_HELP, NOTICES_HELP, ORIGIN_HELP, PEER_HELP, PER_ADDRESS_HELP, PHOENIX_HELP, PORT_HELP,
     PROXY_HELP, ROUTE_HELP, SHARDS_HELP, SUB_HELP, TO_OTHERS_HELP, TOKEN_KEYS_HELP,
@@ -331,6 +331,18 @@ pub(crate) fn topic_bytes_option<'a>(alloc: Global) -> Arg<'a>
         .value_name("NUMBER")
         .action(ArgAction::Set)
         .help(TOPIC_BYTES_HELP)
+}
+
+/// `--grace SECONDS`.
+pub(crate) fn grace_option<'a>(alloc: Global) -> Arg<'a>
+    ensures rule { rule_of result ≡ option_rule (codes "grace") ArgAction.Set }
+    ensures local { result.global ≡ false }
+{
+    Arg::new(alloc, "grace")
+        .long("grace")
+        .value_name("SECONDS")
+        .action(ArgAction::Set)
+        .help(GRACE_HELP)
 }
 
 /// `--log WORD`.

@@ -12,6 +12,7 @@ use crate::arguments::answered_option;
 use crate::arguments::event_option;
 use crate::arguments::explain_flag;
 use crate::arguments::fractions_flag;
+use crate::arguments::grace_option;
 use crate::arguments::handshakes_option;
 use crate::arguments::incarnation_option;
 use crate::arguments::key_option;
@@ -81,6 +82,7 @@ use crate::help::VERSION;
 use crate::options::Budgets;
 use crate::options::ClientOptions;
 use crate::options::FoldOptions;
+use crate::options::MAX_GRACE;
 use crate::options::MAX_LINK_FROM;
 use crate::options::MAX_MEMORY;
 use crate::options::MAX_PROXIES;
@@ -214,7 +216,8 @@ fn serve_command<'a>(alloc: Global) -> Result<Command<'a>, AllocError>
         .arg(answered_option(alloc))?
         .arg(to_others_option(alloc))?
         .arg(token_keys_option(alloc))?
-        .arg(link_keys_option(alloc))
+        .arg(link_keys_option(alloc))?
+        .arg(grace_option(alloc))
 }
 
 // The whole command line.
@@ -390,6 +393,13 @@ const BYTES: NumberRule<'static> = NumberRule {
     high: MAX_TOPIC_BYTES,
 };
 
+const GRACE: NumberRule<'static> = NumberRule {
+    cause: UsageCause::Grace,
+    option: "grace",
+    low: 0,
+    high: MAX_GRACE,
+};
+
 // What everybody together may take.
 fn budgets_of(alloc: Global, matches: &ArgMatches<'_>) -> Result<Budgets, UsageFault>
     ensures given { IfOk result (AreBudgetsGiven (rows_of (found_of matches.now))) }
@@ -400,10 +410,12 @@ fn budgets_of(alloc: Global, matches: &ArgMatches<'_>) -> Result<Budgets, UsageF
     let memory = given_number(alloc, matches, MEMORY)?;
     let topic_rows = given_number(alloc, matches, ROWS)?;
     let topic_bytes = given_number(alloc, matches, BYTES)?;
+    let grace = given_number(alloc, matches, GRACE)?;
     Ok(Budgets {
         memory,
         topic_rows: topic_rows.unwrap_or(TOPIC_ROWS),
         topic_bytes: topic_bytes.unwrap_or(TOPIC_BYTES),
+        grace: grace.unwrap_or(0),
     })
 }
 

@@ -43,6 +43,8 @@ pub enum UsageCause {
     TopicRows,
     /// The bytes of a topic are no number from `MIN_TOPIC_BYTES` to `MAX_TOPIC_BYTES`.
     TopicBytes,
+    /// The grace is no number up to `MAX_GRACE`.
+    Grace,
     /// What is logged is none of the words for it.
     Log,
     /// How it is logged is none of the words for it.

@@ -2,7 +2,7 @@
 //! characters; an option's help has its default at the end of its first line.
 
 /// The version of the program, and the day of its sources: the year, the month and the day.
-pub const VERSION: &str = "0.2.0+20261201";
+pub const VERSION: &str = "0.3.0+20261201";
 
 /// How the program is called.
 pub(crate) const USAGES: &str = "presence_node serve [OPTIONS]
@@ -89,6 +89,11 @@ pub(crate) const TOPIC_ROWS_HELP: &str =
 
 pub(crate) const TOPIC_BYTES_HELP: &str =
     "Bytes of their text, 1024 to 1073741824 [default: 8388608]";
+
+pub(crate) const GRACE_HELP: &str = "Seconds over which clients are let go, 0 to 3600 [default: 0]
+At a stop, and at a line drain on standard input: some at a time,
+while no further one is taken, and then it stops
+A second line stop is at once";
 
 pub(crate) const LOG_HELP: &str = "Lines of which clients: refused, all or none [default: refused]
 On standard error, of those that are refused, dropped or closed for
@@ -181,6 +186,7 @@ Options of serve:
       --memory <MB>            Megabytes that it may take, from 32 [default: half of what there is]
       --topic-rows <NUMBER>    Rows of a topic at this node, 1 to 1048576 [default: 65536]
       --topic-bytes <NUMBER>   Bytes of their text, 1024 to 1073741824 [default: 8388608]
+      --grace <SECONDS>        Seconds over which clients are let go, 0 to 3600 [default: 0]
       --log <WORD>             Lines of which clients: refused, all or none [default: refused]
       --log-format <WORD>      As what, text or json [default: text]
       --metrics-port <PORT>    A port for /metrics alone, 1 to 65535 [default: at --port]
@@ -307,9 +313,9 @@ NAME=HOST:PORT, as often as one likes, --listen ADDRESS, --link-listen ADDRESS, 
 --link-from ADDRESS, up to 16 times --proxy ADDRESS, up to 64 times --origin ORIGIN, scheme://host
 or scheme://host:port, --per-address NUMBER, 1 to 65536, --handshakes NUMBER, 1 to 1000, --memory
 MB, 32 to 16777216, --topic-rows NUMBER, 1 to 1048576, --topic-bytes NUMBER, 1024 to 1073741824,
---log refused, all or none, --log-format text or json, --phoenix, --fractions, --match-joins, up to
-64 times each --event NAME, --answered NAME and --to-others NAME, of 1 to 64 bytes, --token-keys
-FILE and --link-keys FILE;";
+--grace SECONDS, 0 to 3600, --log refused, all or none, --log-format text or json, --phoenix,
+--fractions, --match-joins, up to 64 times each --event NAME, --answered NAME and --to-others NAME,
+of 1 to 64 bytes, --token-keys FILE and --link-keys FILE;";
 
 pub(crate) const TOKEN_TAKES: &str =
     "token takes --key FILE, --sub NAME, up to 64 times --topics PATTERN, a topic or the front of

@@ -94,13 +94,17 @@ impl Drop for PeerOption {
     }
 }
 
-/// What everybody together may take of a server: its memory in megabytes, or what it takes by itself, and how many rows of
-/// this node's own, and bytes of their texts, a topic has at most.
+/// The longest time over which clients are let go, in seconds.
+pub const MAX_GRACE: u64 = 3_600;
+
+/// What everybody together may take of a server: its memory in megabytes, or what it takes by itself, how many rows of
+/// this node's own, and bytes of their texts, a topic has at most, and how many seconds clients have to go before it stops.
 #[derive(Clone, Copy, PartialEq, Eq, Debug)]
 pub struct Budgets {
     pub memory: Option<u64>,
     pub topic_rows: u64,
     pub topic_bytes: u64,
+    pub grace: u64,
 }
 
 /// Of which clients standard error has lines.

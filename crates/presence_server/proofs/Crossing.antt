@@ -19,6 +19,7 @@ use Rattle.hook_registry.specs.contracts.routes.Routes as Routes
 use Rattle.client_settings.specs.contracts.events.EventNames as EventNames
 use Rattle.client_settings.specs.contracts.events.OwnEvents as OwnEvents
 use Rattle.client_settings.specs.contracts.settings.Settings as Settings
+use Rattle.serve_grace.specs.contracts.grace.Grace as Grace
 use Rattle.serve_metrics.specs.contracts.counts.Counts as Counts
 use Rattle.node_log.specs.contracts.log.Log as Log
 use Rattle.serve_rations.specs.contracts.budgets.TopicBudgets as TopicBudgets
@@ -30,6 +31,7 @@ use Rattle.presence_server.specs.contracts.ends.Ends as Ends
 use Rattle.presence_server.specs.contracts.growth.Growth as Growth
 use Rattle.presence_server.specs.contracts.key_ring.KeyRing as KeyRing
 use Rattle.presence_server.specs.contracts.key_ring.OwnKeys as OwnKeys
+use Rattle.presence_server.specs.contracts.letting_go.Farewell as Farewell
 use Rattle.hmac_keys.proofs.Crossing.{key_send, key_sync}
 use Rattle.presence_server.specs.contracts.received.Received as Received
 use Rattle.presence_server.specs.contracts.place.Workplace as Workplace
@@ -55,6 +57,9 @@ budgets_sync = search (maps.crosses, heap.crosses, sendable) depth 60 fits 20000
 
 pub memory_sync : IsSync (MemoryMark.the_field).row
 memory_sync = search (maps.crosses, heap.crosses, sendable) depth 60 fits 20000
+
+pub grace_sync : IsSync (Grace.the_field).row
+grace_sync = search (maps.crosses, heap.crosses, sendable) depth 60 fits 20000
 
 names_send : IsSend (EventNames.the_field).row
 names_send = search (heap.crosses, sendable) depth 60 fits 20000
@@ -103,6 +108,9 @@ received_send = search sendable depth 60 fits 20000
 drain_send : IsSend (Drain.the_field).row
 drain_send = search (heap.crosses, sendable) depth 60 fits 20000
 
+farewell_send : IsSend (Farewell.the_field).row
+farewell_send = search sendable depth 60 fits 20000
+
 module _ (L A B C D : RattleType) (lanes : Lanes.Ghosts L.Denot A.Denot B.Denot C.Denot D.Denot) (lane-a : Lane.Ghosts A.Denot) (lane-b : Lane.Ghosts B.Denot) (lane-c : Lane.Ghosts C.Denot) (lane-d : Lane.Ghosts D.Denot)
     (a : Ledger.Ghosts A.Denot) (b : Ledger.Ghosts B.Denot) (c : Ledger.Ghosts C.Denot) (d : Ledger.Ghosts D.Denot) where
   bench_send : IsSend (Bench.the_field L A B C D lanes lane-a a lane-b b lane-c c lane-d d).row
@@ -147,9 +155,12 @@ module _ (L A B C D : RattleType) (lanes : Lanes.Ghosts L.Denot A.Denot B.Denot 
                                         (
                                           search (drain_send, sendable) depth 60 fits 20000,
                                           (
-                                            search (own_keys_send, sendable) depth 60 fits 20000,
+                                            search (farewell_send, sendable) depth 60 fits 20000,
                                             (
-                                                tt),
+                                              search (own_keys_send, sendable) depth 60 fits 20000,
+                                              (
+                                                  tt),
+                                            ),
                                           ),
                                         ),
                                       ),

@@ -6,8 +6,10 @@ use crate::ends::{Ends, ended_by};
 use crate::following::{add_newcomers, followed_by, followers_of, joined_topics, mark_followers};
 use crate::growth::Growth;
 use crate::key_ring::OwnKeys;
+use crate::letting_go::Farewell;
 use crate::received::Received;
 use crate::server::Server;
+use crate::turn_ports::{Served, port_at, served_by};
 use hook_registry::PresenceHooks;
 use link_streams::time_behind;
 use link_threads::Wakes;
@@ -18,10 +20,10 @@ use serve_connections::{
     Client, Leavers, LongTexts, Moment, Stage, Worker, hold_stalled, mark_put_off, resume_recovered,
 };
 use serve_metrics::{Checkpoint, Counts};
-use serve_ports::{CountingPort, Followed, Followers, HintingPort, Noted, PoolPort};
-use serve_rations::{GuardedPort, RationedPort, Rations, SharedBudgets};
+use serve_ports::{Followed, Followers, Noted};
+use serve_rations::Rations;
 use serve_sockets::{ClientSocket, WebSocket};
-use shard_pool::{Lanes, NoGate, Seat};
+use shard_pool::{Lanes, Seat};
 use std::alloc::Global;
 use std::rt::Files;
 use std::sync::{Arc, Wait};
@@ -48,6 +50,9 @@ const GATHER_MILLISECONDS: u64 = 2;
 
 /// How long one wait lasts while the worker reads nothing, in milliseconds.
 const DRAIN_MILLISECONDS: u64 = 1;
+
+/// How long one wait lasts while clients are let go, in milliseconds.
+const FAREWELL_MILLISECONDS: u64 = 50;
 
 /// After so long each connection is looked at, so that silence is noticed and no hint that was lost matters.
 const SWEEP_MILLISECONDS: u64 = 2_000;
@@ -160,51 +165,6 @@ fn moment_of(milliseconds: u64, keys: &OwnKeys) -> Moment<'_>
     }
 }
 
-// What came of a turn: what its port noted, and whether a journal was replaced by its Start.
-#[derive(Drop)]
-struct Served {
-    noted: Noted,
-    has_made_room: bool,
-}
-
-// The port of a worker's turn: it keeps each connection within its rations and each topic within its budget, refuses what
-// takes memory that there isn't, counts the calls, and notes what they may have changed.
-type TurnPort<'a, R, L> = HintingPort<
-    CountingPort<GuardedPort<RationedPort<'a, PoolPort<'a, R, NoGate, L>, SharedBudgets<'a, R>>>>,
->;
-
-// A port over the server's pool, through the seat.
-fn port_at<'a, R: Wait, H, L: Lanes>(
-    rt: &'a R,
-    server: &'a Server<'_, H, L>,
-    seat: &'a mut Seat<L>,
-    rations: &'a mut Rations,
-) -> TurnPort<'a, R, L> {
-    let pool = PoolPort::new(rt, &server.pool, seat);
-    let budgets = SharedBudgets::new(rt, &server.budgets);
-    let rationed = RationedPort::new(pool, rations, budgets);
-    let guarded = GuardedPort::new(rationed, server.memory.is_tight());
-    HintingPort::new(server.alloc, CountingPort::new(guarded))
-}
-
-// Counts what went through a turn's port: what came of the turn, which was at this time.
-fn served_by<R: Wait, H, L: Lanes>(
-    server: &Server<'_, H, L>,
-    port: TurnPort<'_, R, L>,
-    now: u64,
-) -> Served {
-    let tally = port.port().tally();
-    server.counts.called(&tally);
-    if tally.no_memory > 0 {
-        server.memory.note_lack(now);
-    }
-    let has_made_room = port.port().port().port().port().has_made_room();
-    Served {
-        noted: port.into_noted(),
-        has_made_room,
-    }
-}
-
 /// What a worker has of its own.
 pub struct Bench<L: Lanes> {
     seat: Seat<L>,
@@ -238,6 +198,7 @@ pub struct Bench<L: Lanes> {
     /// How many turns there were.
     turns: u64,
     drain: Drain,
+    farewell: Farewell,
     keys: OwnKeys,
 }
 
@@ -264,6 +225,7 @@ impl<L: Lanes> Drop for Bench<L> {
             received: _,
             turns: _,
             drain,
+            farewell: _,
             keys,
         } = self;
         drop(seat);
@@ -314,6 +276,7 @@ impl<L: Lanes> Bench<L> {
             received: Received::new(),
             turns: 0,
             drain: Drain::new(alloc),
+            farewell: Farewell::new(),
             keys,
         }
     }
@@ -343,6 +306,7 @@ impl<L: Lanes> Bench<L> {
             received: _,
             turns: _,
             drain,
+            farewell: _,
             keys,
         } = self;
         drop(rations);
@@ -613,7 +577,8 @@ impl<L: Lanes> Bench<L> {
                 counts.ended(ended_by(cause));
                 self.ends.add(client, cause);
                 self.received.see_off(client);
-                self.leavers.admit(client, &self.watch, self.now);
+                self.leavers
+                    .admit(client, &self.watch, self.now, self.farewell.is_on());
             }
         }
         first
@@ -648,6 +613,8 @@ impl<L: Lanes> Bench<L> {
             self.gathers_for(false)
         } else if outlook == Outlook::Ending || !self.leavers.is_empty() {
             RETRY_MILLISECONDS
+        } else if self.farewell.is_on() {
+            FAREWELL_MILLISECONDS
         } else {
             IDLE_MILLISECONDS
         }
@@ -696,6 +663,15 @@ impl<L: Lanes> Bench<L> {
         }
     }
 
+    // Where clients are let go, tells as many as have to go by now.
+    fn let_go<H>(&mut self, server: &Server<'_, H, L>) {
+        let Some(passed) = server.grace.passed(self.now) else {
+            return;
+        };
+        let grace = server.grace.milliseconds();
+        self.farewell.let_go(&mut self.worker, passed, grace);
+    }
+
     // Tells each client that the server stops, those too that still wait in the queue, and asks for the end of each
     // session, for some turns.
     fn end_all<R: Wait + Clock + Eprint, H: PresenceHooks>(
@@ -703,6 +679,7 @@ impl<L: Lanes> Bench<L> {
         rt: &R,
         server: &Server<'_, H, L>,
     ) {
+        self.farewell.end();
         for _ in 0..MAX_LAST_TURNS {
             self.keys.look(rt, &server.keys);
             self.take_in(rt, server);
@@ -760,6 +737,7 @@ impl<L: Lanes> Bench<L> {
     ) {
         self.keys.look(rt, &server.keys);
         self.take_in(rt, server);
+        self.let_go(server);
         if self.is_draining(server, own) {
             self.drain(rt, server, own);
         } else {

@@ -108,7 +108,9 @@ struct Room {
 
 /// What the thread at the door has of its own.
 pub struct Door {
-    entries: Entries,
+    /// None where no client is taken any more.
+    clients: Option<TcpListener>,
+    metrics: Option<TcpListener>,
     /// Held open, so that there is a file for who comes when no further one can be opened.
     spare: Option<TcpListener>,
     giver: Giver<WebSocket<ClientSocket, NoMask>>,
@@ -142,7 +144,8 @@ pub struct Door {
 impl Drop for Door {
     fn drop(self) {
         let Door {
-            entries,
+            clients,
+            metrics,
             spare,
             giver,
             watch,
@@ -161,7 +164,8 @@ impl Drop for Door {
             more: _,
             keys,
         } = self;
-        drop(entries);
+        drop(clients);
+        drop(metrics);
         drop(spare);
         drop(giver);
         drop(watch);
@@ -257,9 +261,11 @@ impl Door {
             limits,
             keys,
         } = entrance;
-        let spare = entries.clients.try_clone().ok();
+        let Entries { clients, metrics } = entries;
+        let spare = clients.try_clone().ok();
         Ok(Door {
-            entries,
+            clients: Some(clients),
+            metrics,
             spare,
             giver,
             watch,
@@ -402,10 +408,19 @@ impl Door {
 
     // Who comes next at the port of clients.
     fn next_client(&self) -> Caller {
-        if self.has_file() {
-            next_caller(&self.entries.clients)
-        } else {
-            Caller::NoFile
+        match &self.clients {
+            Some(listener) if self.has_file() => next_caller(listener),
+            Some(_) => Caller::NoFile,
+            None => Caller::Nobody,
+        }
+    }
+
+    // While clients are let go none is taken where `/health` has a port beside theirs: a proxy finds the connection refused, and
+    // goes to the next server. Else their port stays open for `/health`.
+    fn close_to_clients(&mut self, drains: bool) {
+        if drains && self.metrics.is_some() {
+            self.clients = None;
+            self.spare = None;
         }
     }
 
@@ -419,7 +434,10 @@ impl Door {
             return;
         };
         drop(spare);
-        if let Caller::Came(stream, address) = next_caller(&self.entries.clients) {
+        let Some(listener) = &self.clients else {
+            return;
+        };
+        if let Caller::Came(stream, address) = next_caller(listener) {
             self.let_in(
                 rt,
                 server,
@@ -467,7 +485,10 @@ impl Door {
     // Holds a file open again, for who comes when no further one can be opened. Where that isn't so yet nobody is taken.
     fn hold_spare(&mut self) -> bool {
         if self.spare.is_none() && self.has_file() {
-            self.spare = self.entries.clients.try_clone().ok();
+            self.spare = match &self.clients {
+                Some(listener) => listener.try_clone().ok(),
+                None => None,
+            };
         }
         self.spare.is_some()
     }
@@ -475,7 +496,7 @@ impl Door {
     // Takes who waits at the port of metrics, if there is one.
     fn take_observers(&mut self, alloc: Global) {
         for _ in 0..MAX_ACCEPTED {
-            let Some(listener) = &self.entries.metrics else {
+            let Some(listener) = &self.metrics else {
                 break;
             };
             if !self.has_file() {
@@ -558,7 +579,7 @@ impl Door {
         server: &'x Server<'_, H, L>,
     ) -> Result<Vec<Opened<ClientSocket>>, AllocError> {
         let places = self.places_left();
-        let has_metrics = self.entries.metrics.is_none();
+        let has_metrics = self.metrics.is_none();
         let pulse = Pulse { rt, server };
         let mut reception = self.reception(server.alloc);
         let signing = self.keys.signing();
@@ -649,13 +670,13 @@ impl Door {
     }
 
     // Waits until there is something to do, and marks the handshakes that go on. Each is looked at after a while,
-    // so that one which is silent is given up.
-    fn pause<R: Clock>(&mut self, rt: &R) {
+    // so that one which is silent is given up, and while clients are let go they are counted as often.
+    fn pause<R: Clock>(&mut self, rt: &R, drains: bool) {
         let wait = if self.more {
             0
         } else if !self.waiting.is_empty() {
             QUEUE_MILLISECONDS
-        } else if self.guests.is_empty() && self.observers.is_empty() {
+        } else if self.guests.is_empty() && self.observers.is_empty() && !drains {
             IDLE_MILLISECONDS
         } else {
             LOOK_MILLISECONDS
@@ -697,12 +718,13 @@ impl Door {
             if server.is_stopped() {
                 break;
             }
+            self.close_to_clients(server.grace.has_begun());
             self.take_in(rt, server);
             self.take_observers(server.alloc);
             self.keys.look(rt, &server.keys);
             self.greet(rt, server);
             self.hand_on(rt, server);
-            self.pause(rt);
+            self.pause(rt, server.grace.has_begun());
             self.catch_up(rt, server);
         }
     }

@@ -15,6 +15,7 @@ mod following;
 mod growth;
 mod key_ring;
 pub mod laws;
+mod letting_go;
 mod load;
 mod neighbours;
 mod place;
@@ -23,6 +24,7 @@ mod reasons;
 mod received;
 mod runtime;
 mod server;
+mod turn_ports;
 
 pub use bench::Bench;
 pub use door::{Door, DoorLimits, Entrance, Entries, LISTENER, METRICS_LISTENER};

@@ -6,7 +6,7 @@ use crate::server::Server;
 use link_streams::time_behind;
 use link_threads::Links;
 use node_system::{max_files, open_files, resident_bytes};
-use serve_handshakes::{Answer, GivenUp, Tells};
+use serve_handshakes::{Answer, GivenUp, Tells, Wellness};
 use serve_metrics::{LinksTold, ProcessTold, ShardsTold, metrics_text};
 use shard_pool::Lanes;
 use std::alloc::{AllocError, Global};
@@ -88,8 +88,14 @@ impl<'a, 'b, R: Wait + Clock + Files + Eprint, H, L: Lanes> Tells for Pulse<'a, 
         metrics_text(alloc, &self.server.counts.told(), &shards, &links, &process)
     }
 
-    fn is_well(&self) -> bool {
-        !self.server.memory.is_lacking(time_behind(self.rt, 0))
+    fn wellness(&self) -> Wellness {
+        if self.server.grace.has_begun() {
+            Wellness::Draining
+        } else if self.server.memory.is_lacking(time_behind(self.rt, 0)) {
+            Wellness::Unwell
+        } else {
+            Wellness::Well
+        }
     }
 
     fn answered(&self, answer: Answer, address: &IpAddr) {

@@ -8,7 +8,7 @@ pub(crate) fn told_of(answer: Answer) -> Option<Reason> {
     match answer {
         Answer::Socket(_) => Some(Reason::Opened),
         Answer::Page | Answer::Script | Answer::Health | Answer::Metrics => None,
-        Answer::Options | Answer::Unwell => None,
+        Answer::Options | Answer::Unwell | Answer::Draining => None,
         Answer::BadRequest | Answer::NoHost => Some(Reason::BadRequest),
         Answer::Forbidden => Some(Reason::Forbidden),
         Answer::NotFound | Answer::Elsewhere => Some(Reason::NotFound),

@@ -10,6 +10,7 @@ use link_threads::{LinkRuntime, LinkTask, Links, Wakes};
 use node_log::Log;
 use node_system::Bell;
 use node_threads::Crew;
+use serve_grace::Grace;
 use serve_metrics::Counts;
 use serve_ports::{Followed, Inbox, Topics};
 use serve_rations::{MemoryMark, TopicBudgets};
@@ -96,6 +97,8 @@ pub struct Server<'a, H, L: Lanes> {
     pub stopped: AtomicBool,
     /// Under which keys clients sign in, if they have to.
     pub keys: KeyRing,
+    /// Over how long clients are let go before the server stops.
+    pub grace: Grace,
     ghost all_shards: { links.shards ≡ pool.shards },
 }
 
@@ -120,6 +123,7 @@ impl<'a, H, L: Lanes> Drop for Server<'a, H, L> {
             links,
             stopped,
             keys,
+            grace,
         } = self;
         drop(pool);
         drop(budgets);
@@ -131,6 +135,7 @@ impl<'a, H, L: Lanes> Drop for Server<'a, H, L> {
         drop(links);
         drop(stopped);
         drop(keys);
+        drop(grace);
     }
 }
 
@@ -194,6 +199,7 @@ impl<'a, H, L: Lanes> Server<'a, H, L> {
             links,
             stopped,
             keys,
+            grace,
         } = self;
         drop(budgets);
         drop(memory);
@@ -204,6 +210,7 @@ impl<'a, H, L: Lanes> Server<'a, H, L> {
         drop(links);
         drop(stopped);
         drop(keys);
+        drop(grace);
         pool
     }
 }

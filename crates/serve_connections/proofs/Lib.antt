@@ -15,4 +15,5 @@ pub mod LeavingLemmas
 pub mod Notes
 pub mod Marking
 pub mod Holding
+pub mod Stoppings
 pub mod Crossing

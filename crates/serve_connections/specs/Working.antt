@@ -172,6 +172,14 @@ module _ {S : Type 0} (contents : S → Option (List ℕ)) where
   abbrev pub StopsAll : List (Client S) → List (Client S) → Type 0
   StopsAll olds news = Pairwise StopsOne olds news
 
+  abbrev pub StopsIf : Bool → Client S → Client S → Type 0
+  StopsIf true old new = StopsOne old new
+  StopsIf false old new = new ≡ old
+
+  -- It does so for the connection of this token alone.
+  abbrev pub StopsAt : ℕ → List (Client S) → List (Client S) → Type 0
+  StopsAt token olds news = Pairwise (λ old new. StopsIf (old.token == token) old new) olds news
+
 -- ---- new connections
 
 -- a connection over a socket whose handshake is done: its session has joined nothing

@@ -23,19 +23,20 @@ const READ_BYTES: usize = 4_096;
 /// How many reads of a client one turn makes.
 const MAX_READS: usize = 16;
 
-// Whether a client whose connection is over was told why.
-fn was_told(client: &Client<ClientSocket>) -> bool {
-    matches!(
-        client.connection.stage,
+// Whether a client whose connection is over was told why, and is waited for: where the server stops at once it waits for none.
+fn was_told(client: &Client<ClientSocket>, drains: bool) -> bool {
+    match client.connection.stage {
+        Stage::Over(Cause::Stopping) => drains,
         Stage::Over(
             Cause::Silent
-                | Cause::Binary
-                | Cause::Fault(_)
-                | Cause::Full
-                | Cause::Expired
-                | Cause::Unsigned
-        )
-    )
+            | Cause::Binary
+            | Cause::Fault(_)
+            | Cause::Full
+            | Cause::Expired
+            | Cause::Unsigned,
+        ) => true,
+        _ => false,
+    }
 }
 
 // Reads what waits and throws it away: whether there may be more. Where the stream has ended or fails there is none.
@@ -118,9 +119,10 @@ impl Leavers {
         self.leavers.len()
     }
 
-    /// Waits for a client whose connection is over, which the worker gives up with its next flush, if it was told why.
-    pub fn admit(&mut self, client: &Client<ClientSocket>, watch: &Watch, now: u64) {
-        if was_told(client) {
+    /// Waits for a client whose connection is over, which the worker gives up with its next flush, if it was told why: that the
+    /// server stops only where it lets its clients go.
+    pub fn admit(&mut self, client: &Client<ClientSocket>, watch: &Watch, now: u64, drains: bool) {
+        if was_told(client, drains) {
             self.wait_for(watch, client.connection.socket.get_ref().stream(), now);
         }
     }

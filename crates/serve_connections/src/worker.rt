@@ -6,7 +6,7 @@ ghost use Rattle.serve_connections.specs.Turning.{around};
 ghost use Rattle.serve_connections.specs.declared.worker.TheConstants.{MAX_CONNECTIONS};
 ghost use Rattle.serve_connections.specs.Places.{AreKept, AreLeft, DeliversKeys, ServesKeys, kept_prop, served};
 ghost use Rattle.serve_connections.specs.Resting.{AreAtRest, FindsDue, is_noted, rest_prop, rests_at};
-ghost use Rattle.serve_connections.specs.Working.{DeliversAll, EndsAt, NoneLost, Pairwise, RisesBetween, Sends, SendsAll, Serves, ServesAll, StopsAll, TakesIn, TakesOne, ended_at, goes_on, held, marked, readied, rises_prop};
+ghost use Rattle.serve_connections.specs.Working.{DeliversAll, EndsAt, NoneLost, Pairwise, RisesBetween, Sends, SendsAll, Serves, ServesAll, StopsAll, StopsAt, TakesIn, TakesOne, ended_at, goes_on, held, marked, readied, rises_prop};
 
 use crate::client::Client;
 use crate::connection::Connection;
@@ -353,6 +353,17 @@ impl<S: Read + Write + Drop> Worker<S> {
             ≡ map readied (served_by self.old) }
     {
         mark_each(&mut self.clients, self.order.as_slice(), &mut self.resting);
+    }
+
+    /// Ends the connection of this token since the server stops, if one of this worker's has it: its client is told so at the
+    /// next flush, and its session's end is asked for in each turn from the next one on, until it is accepted.
+    pub fn stop(&mut self, token: usize)
+        ensures { StopsAt S.contents token (served_by self.old) (served_by self.new) }
+    {
+        if let Some(client) = self.clients.get_mut(token) {
+            client.stop();
+            self.resting.wake(token);
+        }
     }
 
     /// Ends each connection since the server stops: its client is told so at the next flush, and its

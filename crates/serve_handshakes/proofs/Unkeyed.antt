@@ -2,11 +2,13 @@
 use Rattle.std.proofs.Common.{◌≡◌, ℕ, Bool, true, false, cond, ◌||◌, ◌==◌, List, codes, bytes_eq, None, is_some, map, string_bytes, sym, subst, ap, ◌∙◌}
 use Rattle.serve_handshakes.specs.Answering.{AnsweredAt, NamesNoToken, Seats, entered}
 use Rattle.serve_handshakes.specs.Answers.{answer_in, lets_in, page_in, path_at, plain_in, socket_in}
-use Rattle.serve_handshakes.specs.Greeting.{while_well_in}
+use Rattle.serve_handshakes.specs.Greeting.{while_so_in}
 use Rattle.serve_handshakes.specs.Seating.{seated_in}
 use Rattle.serve_handshakes.specs.declared.answer.Answer.{Answer}
-use Rattle.serve_handshakes.specs.declared.answer.Answer.TheVariants.{Socket, Page, Script, Health, Metrics, BadRequest, Forbidden, NotFound, NotAllowed, Options, NoHost, LongHead, LongBody, Elsewhere, Unwell, Full, Crowded, Hasty, Unauthorized}
+use Rattle.serve_handshakes.specs.declared.answer.Answer.TheVariants.{Socket, Page, Script, Health, Metrics, BadRequest, Forbidden, NotFound, NotAllowed, Options, NoHost, LongHead, LongBody, Elsewhere, Unwell, Draining, Full, Crowded, Hasty, Unauthorized}
 use Rattle.serve_handshakes.specs.declared.answer.Site.{Site}
+use Rattle.serve_handshakes.specs.declared.front.Wellness.{Wellness}
+use Rattle.serve_handshakes.specs.declared.front.Wellness.TheVariants as wellness
 use Rattle.serve_handshakes.specs.declared.head.Request.{Request}
 use Rattle.serve_handshakes.specs.declared.seating.Admission.{Admission}
 use Rattle.serve_handshakes.specs.declared.seating.Admission.TheVariants.{Welcome, OneTooMany, TooSoon, NoRoom}
@@ -36,6 +38,7 @@ seats_all places request LongHead answer h = (NoRoom, h)
 seats_all places request LongBody answer h = (NoRoom, h)
 seats_all places request Elsewhere answer h = (NoRoom, h)
 seats_all places request Unwell answer h = (NoRoom, h)
+seats_all places request Draining answer h = (NoRoom, h)
 seats_all places request Full answer h = (NoRoom, h)
 seats_all places request Crowded answer h = (NoRoom, h)
 seats_all places request Hasty answer h = (NoRoom, h)
@@ -68,27 +71,48 @@ pub answer_names : (site : Site) (r : Request) → NamesNoToken (answer_in site 
 answer_names site r =
     either r.has_host _ _ (either r.has_long_body _ _ tt (either r.upgrades _ _ (socket_names site r) (plain_names site r))) tt
 
-pub well_names : (well : Bool) (asked : Answer) → NamesNoToken asked → NamesNoToken (while_well_in well asked)
-well_names true asked h = h
-well_names false (Socket told) h = tt
-well_names false Page h = tt
-well_names false Script h = tt
-well_names false Health h = tt
-well_names false Metrics h = tt
-well_names false BadRequest h = tt
-well_names false Forbidden h = tt
-well_names false NotFound h = tt
-well_names false NotAllowed h = tt
-well_names false Options h = tt
-well_names false NoHost h = tt
-well_names false LongHead h = tt
-well_names false LongBody h = tt
-well_names false Elsewhere h = tt
-well_names false Unwell h = tt
-well_names false Full h = tt
-well_names false Crowded h = tt
-well_names false Hasty h = tt
-well_names false (Unauthorized why) h = h
+pub well_names : (well : Wellness) (asked : Answer) → NamesNoToken asked → NamesNoToken (while_so_in well asked)
+well_names wellness.Well asked h = h
+well_names wellness.Unwell (Socket told) h = tt
+well_names wellness.Unwell Page h = tt
+well_names wellness.Unwell Script h = tt
+well_names wellness.Unwell Health h = tt
+well_names wellness.Unwell Metrics h = tt
+well_names wellness.Unwell BadRequest h = tt
+well_names wellness.Unwell Forbidden h = tt
+well_names wellness.Unwell NotFound h = tt
+well_names wellness.Unwell NotAllowed h = tt
+well_names wellness.Unwell Options h = tt
+well_names wellness.Unwell NoHost h = tt
+well_names wellness.Unwell LongHead h = tt
+well_names wellness.Unwell LongBody h = tt
+well_names wellness.Unwell Elsewhere h = tt
+well_names wellness.Unwell Unwell h = tt
+well_names wellness.Unwell Draining h = tt
+well_names wellness.Unwell Full h = tt
+well_names wellness.Unwell Crowded h = tt
+well_names wellness.Unwell Hasty h = tt
+well_names wellness.Unwell (Unauthorized why) h = h
+well_names wellness.Draining (Socket told) h = tt
+well_names wellness.Draining Page h = tt
+well_names wellness.Draining Script h = tt
+well_names wellness.Draining Health h = tt
+well_names wellness.Draining Metrics h = tt
+well_names wellness.Draining BadRequest h = tt
+well_names wellness.Draining Forbidden h = tt
+well_names wellness.Draining NotFound h = tt
+well_names wellness.Draining NotAllowed h = tt
+well_names wellness.Draining Options h = tt
+well_names wellness.Draining NoHost h = tt
+well_names wellness.Draining LongHead h = tt
+well_names wellness.Draining LongBody h = tt
+well_names wellness.Draining Elsewhere h = tt
+well_names wellness.Draining Unwell h = tt
+well_names wellness.Draining Draining h = tt
+well_names wellness.Draining Full h = tt
+well_names wellness.Draining Crowded h = tt
+well_names wellness.Draining Hasty h = tt
+well_names wellness.Draining (Unauthorized why) h = h
 
 socket_names_at : (standing : Admission) (places : ℕ) (told : Bool) → NamesNoToken (seated_in standing places (Socket told))
 socket_names_at Welcome places told = either (places == 0) _ _ tt tt
@@ -114,6 +138,7 @@ seats_name places request LongHead answer h k = subst NamesNoToken (sym h) k
 seats_name places request LongBody answer h k = subst NamesNoToken (sym h) k
 seats_name places request Elsewhere answer h k = subst NamesNoToken (sym h) k
 seats_name places request Unwell answer h k = subst NamesNoToken (sym h) k
+seats_name places request Draining answer h k = subst NamesNoToken (sym h) k
 seats_name places request Full answer h k = subst NamesNoToken (sym h) k
 seats_name places request Crowded answer h k = subst NamesNoToken (sym h) k
 seats_name places request Hasty answer h k = subst NamesNoToken (sym h) k

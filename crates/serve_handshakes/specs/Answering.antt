@@ -2,7 +2,7 @@
 use Rattle.std.specs.Prelude.{◌≡◌, ℕ, Bool, List, Option, Some, None, Result, Ok, Err}
 use Rattle.tokens.specs.declared.signing.Signing.{Signing}
 use Rattle.serve_handshakes.specs.Answers.{answer_in}
-use Rattle.serve_handshakes.specs.Greeting.{while_well_in}
+use Rattle.serve_handshakes.specs.Greeting.{while_so_in}
 use Rattle.serve_handshakes.specs.Replies.{IsReplyTo}
 use Rattle.serve_handshakes.specs.Seating.{seated_in}
 use Rattle.serve_handshakes.specs.Shown.{shown_in}
@@ -10,6 +10,7 @@ use Rattle.serve_handshakes.specs.SigningIn.{SignsIn, let_in}
 use Rattle.serve_handshakes.specs.declared.answer.Answer.{Answer}
 use Rattle.serve_handshakes.specs.declared.answer.Answer.TheVariants.{Socket, Unauthorized}
 use Rattle.serve_handshakes.specs.declared.answer.Site.{Site}
+use Rattle.serve_handshakes.specs.declared.front.Wellness.{Wellness}
 use Rattle.serve_handshakes.specs.declared.head.Request.{Request}
 use Rattle.serve_handshakes.specs.declared.seating.Admission.{Admission}
 use Rattle.serve_handshakes.specs.declared.seating.Admission.TheVariants.{Welcome}
@@ -34,7 +35,7 @@ Seats signing places request asked answer = answer ≡ asked
 -- What a request is answered at this place, where so many further places are there.
 abbrev pub Answers : Site → Option Signing → ℕ → Request → Answer → Type 0
 Answers site signing places request answer =
-    (well : Bool) × Seats signing places request (while_well_in well (answer_in site request)) answer
+    (well : Wellness) × Seats signing places request (while_so_in well (answer_in site request)) answer
 
 -- the token that the stream carries is the request's, and lets its client in
 abbrev pub IsCarried : Option Signing → Request → Option (List ℕ) → Type 0
@@ -49,8 +50,8 @@ Admits signing request carried answer = Unit {0}
 -- What a request is answered where no client signs in.
 abbrev pub AnswersAll : Site → ℕ → Request → Answer → Type 0
 AnswersAll site places request answer =
-    (well : Bool) × (standing : Admission)
-    × (answer ≡ seated_in standing places (while_well_in well (answer_in site request)))
+    (well : Wellness) × (standing : Admission)
+    × (answer ≡ seated_in standing places (while_so_in well (answer_in site request)))
 
 -- the answer tells nobody to sign in
 abbrev pub NamesNoToken : Answer → Type 0

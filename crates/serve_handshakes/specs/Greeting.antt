@@ -1,5 +1,5 @@
 -- What one look at a handshake gives.
-use Rattle.std.specs.Prelude.{◌≡◌, ◌+◌, Bool, true, false, List, Option, None, Some}
+use Rattle.std.specs.Prelude.{◌≡◌, ◌+◌, false, List, Option, None, Some}
 use Rattle.std.specs.declared.net.ip_addr.IpAddr.{IpAddr}
 use Rattle.std.specs.declared.io.traits.Read.{Ghosts as ReadGhosts}
 use Rattle.std.specs.declared.io.traits.Write.{Ghosts as WriteGhosts}
@@ -9,7 +9,10 @@ use Rattle.websocket.specs.declared.protocol.config.Role.TheVariants as Role
 use Rattle.serve_handshakes.specs.Clients.{is_proxy}
 use Rattle.serve_handshakes.specs.Heads.{HasAsked}
 use Rattle.serve_handshakes.specs.declared.answer.Answer.{Answer}
-use Rattle.serve_handshakes.specs.declared.answer.Answer.TheVariants.{Health, Unwell}
+use Rattle.serve_handshakes.specs.declared.answer.Answer.TheVariants.{Draining, Health, Unwell}
+use Rattle.serve_handshakes.specs.declared.answer.Answer.TheVariants as answers
+use Rattle.serve_handshakes.specs.declared.front.Wellness.{Wellness}
+use Rattle.serve_handshakes.specs.declared.front.Wellness.TheVariants as wellness
 use Rattle.serve_handshakes.specs.declared.greeting.Greeting.{Greeting}
 use Rattle.serve_handshakes.specs.declared.greeting.Greeted.{Greeted}
 use Rattle.serve_handshakes.specs.declared.greeting.Greeted.TheVariants.{Open, Waits, GivenUp}
@@ -17,11 +20,14 @@ use Rattle.serve_handshakes.specs.declared.greeting.GivenUp.TheVariants.{Answere
 use Rattle.serve_handshakes.specs.declared.party.Party.{Party}
 use Rattle.serve_handshakes.specs.declared.party.TheConstants.{MAX_EMPTY_READS}
 
--- a program that isn't well says so where it is asked
-abbrev pub while_well_in : Bool → Answer → Answer
-while_well_in true answer = answer
-while_well_in false Health = Unwell
-while_well_in false answer = answer
+-- a program that isn't well says so where it is asked, and one that lets its clients go takes no further one
+abbrev pub while_so_in : Wellness → Answer → Answer
+while_so_in wellness.Well answer = answer
+while_so_in wellness.Unwell Health = Unwell
+while_so_in wellness.Unwell answer = answer
+while_so_in wellness.Draining Health = Draining
+while_so_in wellness.Draining (answers.Socket has_protocol) = Draining
+while_so_in wellness.Draining answer = answer
 
 -- a client's address, as it is known behind what these proxies may have told of it: nobody else's word is believed
 abbrev pub IsKnownFrom : List IpAddr → IpAddr → IpAddr → Type 0

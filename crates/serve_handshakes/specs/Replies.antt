@@ -2,7 +2,7 @@
 use Rattle.std.specs.Prelude.{◌≡◌, ℕ, Bool, false, cond, not, List, [], bytes_eq, codes, Some}
 use Rattle.serve_handshakes.specs.Heads.{Opens, bare_bytes, plain_bytes}
 use Rattle.serve_handshakes.specs.declared.answer.Answer.{Answer}
-use Rattle.serve_handshakes.specs.declared.answer.Answer.TheVariants.{Socket, Page, Script, Health, Metrics, BadRequest, Forbidden, NotFound, NotAllowed, Options, NoHost, LongHead, LongBody, Elsewhere, Unwell, Full, Crowded, Hasty, Unauthorized}
+use Rattle.serve_handshakes.specs.declared.answer.Answer.TheVariants.{Socket, Page, Script, Health, Metrics, BadRequest, Forbidden, NotFound, NotAllowed, Options, NoHost, LongHead, LongBody, Elsewhere, Unwell, Draining, Full, Crowded, Hasty, Unauthorized}
 use Rattle.serve_handshakes.specs.declared.head.Request.{Request}
 use Rattle.serve_handshakes.specs.declared.unsigned.Unsigned.{Unsigned}
 use Rattle.serve_handshakes.specs.declared.unsigned.Unsigned.TheVariants.{NoToken, Malformed, OtherAlgorithm, BadSignature, BadClaims, TooEarly, Expired}
@@ -26,6 +26,7 @@ status_in LongHead = codes "431 Request Header Fields Too Large"
 status_in LongBody = codes "413 Content Too Large"
 status_in Elsewhere = codes "404 Not Found"
 status_in Unwell = codes "503 Service Unavailable"
+status_in Draining = codes "503 Service Unavailable"
 status_in Full = codes "503 Service Unavailable\r\nretry-after: 5"
 status_in Crowded = codes "503 Service Unavailable\r\nretry-after: 5"
 status_in Hasty = codes "429 Too Many Requests\r\nretry-after: 5"
@@ -48,6 +49,7 @@ Says metrics Script body = body ≡ SCRIPT.now
 Says metrics Metrics body = body ≡ metrics
 Says metrics Health body = body ≡ codes "ok\n"
 Says metrics Unwell body = body ≡ codes "calls fail\n"
+Says metrics Draining body = body ≡ codes "draining\n"
 Says metrics BadRequest body = body ≡ codes "this is no request for a WebSocket of version 13\n"
 Says metrics NoHost body = body ≡ codes "a request tells its host once, by the field Host\n"
 Says metrics Forbidden body = body ≡ codes "pages of this origin are not let in\n"

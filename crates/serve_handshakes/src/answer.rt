@@ -38,6 +38,8 @@ pub enum Answer {
     Elsewhere,
     /// The program is there, and calls fail.
     Unwell,
+    /// It lets its clients go, and takes no further one.
+    Draining,
     /// It asks for a WebSocket, and there is no place for one.
     Full,
     /// The same, and as many clients of its address are here as may be.

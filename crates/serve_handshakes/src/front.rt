@@ -6,13 +6,23 @@ use std::alloc::{AllocError, Global};
 use std::net::IpAddr;
 use tokens::Signing;
 
+/// How the program is.
+#[derive(Clone, Copy, PartialEq, Eq, Debug)]
+pub enum Wellness {
+    Well,
+    /// Calls fail.
+    Unwell,
+    /// It lets its clients go.
+    Draining,
+}
+
 /// What is told of the program, and what it is told of its clients.
 pub trait Tells {
     /// What it has counted.
     fn metrics(&self, alloc: Global) -> Result<String, AllocError>;
 
-    /// Whether calls are answered.
-    fn is_well(&self) -> bool;
+    /// How it is.
+    fn wellness(&self) -> Wellness;
 
     /// A request of the client at this address got this answer.
     fn answered(&self, answer: Answer, address: &IpAddr);

@@ -1,12 +1,12 @@
 //! One client's handshake.
 ghost use Rattle.std.specs.Prelude.{◌≡◌, IfOk, IfSome};
-ghost use Rattle.serve_handshakes.specs.Greeting.{IsKnownFrom, while_well_in};
+ghost use Rattle.serve_handshakes.specs.Greeting.{IsKnownFrom, while_so_in};
 ghost use Rattle.serve_handshakes.specs.Clients.{IsClientOf};
 ghost use Rattle.serve_handshakes.specs.Heads.{HasRequest};
 ghost use Rattle.serve_handshakes.specs.Answering.{Admits, Answers, IsAnsweredBy};
 
 use crate::answer::{Answer, Site, answer_of};
-use crate::front::{Front, Keeper, Tells};
+use crate::front::{Front, Keeper, Tells, Wellness};
 use crate::head::{Parsed, Request, read_request};
 use crate::party::{MAX_EMPTY_READS, Party};
 use crate::reply::Reply;
@@ -98,14 +98,14 @@ enum Written {
     Ends,
 }
 
-// What a request gets while the program is well, or isn't.
-fn while_well(answer: Answer, is_well: bool) -> Answer
-    ensures { result ≡ while_well_in is_well answer }
+// What a request gets while the program is so.
+fn while_so(answer: Answer, wellness: Wellness) -> Answer
+    ensures { result ≡ while_so_in wellness answer }
 {
-    if answer == Answer::Health && !is_well {
-        Answer::Unwell
-    } else {
-        answer
+    match (wellness, answer) {
+        (Wellness::Unwell, Answer::Health) => Answer::Unwell,
+        (Wellness::Draining, Answer::Health | Answer::Socket(_)) => Answer::Draining,
+        _ => answer,
     }
 }
 
@@ -134,7 +134,7 @@ fn answer_for<S: Read + Write + Drop, T: Tells, K: Keeper<S>>(
         has_clients: front.has_clients,
         has_metrics: front.has_metrics,
     };
-    let answer = while_well(answer_of(request, &site), front.tells.is_well());
+    let answer = while_so(answer_of(request, &site), front.tells.wellness());
     if !matches!(answer, Answer::Socket(_)) {
         return answer;
     }
@@ -154,7 +154,8 @@ fn answer_for<S: Read + Write + Drop, T: Tells, K: Keeper<S>>(
     }
 }
 
-// What is sent for a request, if anything is.
+// What is sent for a request, if anything is. Who asks for a WebSocket while clients are let go gets nothing: a proxy takes
+// that for a server which is down, and goes to the next one.
 fn reply_for<S: Read + Write + Drop, T: Tells, K: Keeper<S>>(
     alloc: Global,
     head: &[u8],
@@ -175,6 +176,9 @@ fn reply_for<S: Read + Write + Drop, T: Tells, K: Keeper<S>>(
 {
     let answer = answer_for(alloc, head, request, party, front);
     front.tells.answered(answer, &party.address);
+    if answer == Answer::Draining && request.upgrades {
+        return Ok(None);
+    }
     if answer == Answer::Metrics {
         let metrics = front.tells.metrics(alloc)?;
         return reply_of(alloc, head, request, answer, metrics.as_str());

@@ -38,7 +38,7 @@ pub use address::{counted_by, is_near};
 pub use answer::Answer;
 pub use client::is_proxy;
 pub use fields::MAX_BODY_BYTES;
-pub use front::{Front, Keeper, Tells};
+pub use front::{Front, Keeper, Tells, Wellness};
 pub use greeting::{GivenUp, Greeted, Greeting, MAX_HEAD_BYTES};
 pub use guests::{Guests, MAX_HANDSHAKES, Newcomer, Opened};
 pub use head::MAX_FIELDS;

@@ -32,7 +32,7 @@ fn status_of(answer: Answer) -> &'static str
         Answer::Hasty => "429 Too Many Requests\r\nretry-after: 5",
         Answer::LongHead => "431 Request Header Fields Too Large",
         Answer::Full | Answer::Crowded => "503 Service Unavailable\r\nretry-after: 5",
-        Answer::Unwell => "503 Service Unavailable",
+        Answer::Unwell | Answer::Draining => "503 Service Unavailable",
     }
 }
 
@@ -73,6 +73,7 @@ fn body_of(answer: Answer, metrics: &str) -> &str
         Answer::Metrics => metrics,
         Answer::Health => "ok\n",
         Answer::Unwell => "calls fail\n",
+        Answer::Draining => "draining\n",
         Answer::BadRequest => "this is no request for a WebSocket of version 13\n",
         Answer::NoHost => "a request tells its host once, by the field Host\n",
         Answer::Forbidden => "pages of this origin are not let in\n",

@@ -71,7 +71,7 @@ impl Answers {
             Answer::LongHead => &self.long_head,
             Answer::LongBody => &self.long_body,
             Answer::Elsewhere => &self.elsewhere,
-            Answer::Unwell => &self.unwell,
+            Answer::Unwell | Answer::Draining => &self.unwell,
             Answer::Full => &self.full,
             Answer::Crowded => &self.crowded,
             Answer::Hasty => &self.hasty,

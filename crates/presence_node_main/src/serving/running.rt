@@ -24,6 +24,7 @@ use presence_options::{PeerOption, ServeOptions, VERSION};
 use presence_server::{
     Door, Entrance, Entries, KeyRing, OwnKeys, ServeRuntime, Server, Workplace, seats_of,
 };
+use serve_grace::Grace;
 use serve_metrics::Counts;
 use shard_pool::{Blanks, Four, Lane, Lanes, NoGate, Pool, Seat};
 use std::alloc::{AllocError, Global};
@@ -277,6 +278,10 @@ where
         log: &server.log,
         place: place.as_str(),
         keys: key_place(&server.keys, options),
+        grace: &server.grace,
+        counts: &server.counts,
+        mailboxes: server.mailboxes.as_slice(),
+        door_bell: &server.door_bell,
     };
     let places = run_crew(rt, alloc, &server, &stop, posts)?;
     let mut seats = seats_of(alloc, places)?;
@@ -336,6 +341,7 @@ where
         links,
         stopped: AtomicBool::new(false),
         keys: KeyRing::new(&setting.secrets.token_keys)?,
+        grace: Grace::new(options.budgets.grace),
     };
     run_server(rt, server, posts, options)
 }

@@ -12,4 +12,5 @@ returns c =
     let five = c.in_ok-arg-5.ensures.shape c.answered_option.ensures.local ∙ ap₂ with_rule four c.answered_option.ensures.rule in
     let six = c.in_ok-arg-6.ensures.shape c.to_others_option.ensures.local ∙ ap₂ with_rule five c.to_others_option.ensures.rule in
     let seven = c.in_ok-arg-7.ensures.shape c.token_keys_option.ensures.local ∙ ap₂ with_rule six c.token_keys_option.ensures.rule in
-    IfOk-weaker c.arg-8.result _ _ (λ r a. a.shape c.link_keys_option.ensures.local ∙ ap₂ with_rule seven c.link_keys_option.ensures.rule) c.arg-8.ensures
+    let eight = c.in_ok-arg-8.ensures.shape c.link_keys_option.ensures.local ∙ ap₂ with_rule seven c.link_keys_option.ensures.rule in
+    IfOk-weaker c.arg-9.result _ _ (λ r a. a.shape c.grace_option.ensures.local ∙ ap₂ with_rule eight c.grace_option.ensures.rule) c.arg-9.ensures

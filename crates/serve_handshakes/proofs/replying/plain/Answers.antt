@@ -2,7 +2,7 @@ use Rattle.std.proofs.Common.{◌≡◌, ℕ, Bool, List, refl}
 use Rattle.std.proofs.lemmas.Result.{IfOk-weaker}
 use Rattle.serve_handshakes.specs.Replies.{IsPlainReply, IsTextReply}
 use Rattle.serve_handshakes.specs.declared.answer.Answer.{Answer}
-use Rattle.serve_handshakes.specs.declared.answer.Answer.TheVariants.{Socket, Page, Script, Health, Metrics, BadRequest, Forbidden, NotFound, NotAllowed, Options, NoHost, LongHead, LongBody, Elsewhere, Unwell, Full, Crowded, Hasty, Unauthorized}
+use Rattle.serve_handshakes.specs.declared.answer.Answer.TheVariants.{Socket, Page, Script, Health, Metrics, BadRequest, Forbidden, NotFound, NotAllowed, Options, NoHost, LongHead, LongBody, Elsewhere, Unwell, Draining, Full, Crowded, Hasty, Unauthorized}
 use Rattle.serve_handshakes.proofs.replying.plain.Goals as goal
 
 -- a text is the reply, where it isn't the methods that are told
@@ -23,6 +23,7 @@ text_is metrics LongHead is_sent reply other h = h
 text_is metrics LongBody is_sent reply other h = h
 text_is metrics Elsewhere is_sent reply other h = h
 text_is metrics Unwell is_sent reply other h = h
+text_is metrics Draining is_sent reply other h = h
 text_is metrics Full is_sent reply other h = h
 text_is metrics Crowded is_sent reply other h = h
 text_is metrics Hasty is_sent reply other h = h

@@ -1,7 +1,7 @@
 use Rattle.std.proofs.Common.{◌≡◌, ℕ, Bool, List, bytes_eq, codes, not, refl, rules, subst}
 use Rattle.serve_handshakes.specs.Replies.{IsPlainReply, IsReplyTo}
 use Rattle.serve_handshakes.specs.declared.answer.Answer.{Answer}
-use Rattle.serve_handshakes.specs.declared.answer.Answer.TheVariants.{Socket, Page, Script, Health, Metrics, BadRequest, Forbidden, NotFound, NotAllowed, Options, NoHost, LongHead, LongBody, Elsewhere, Unwell, Full, Crowded, Hasty, Unauthorized}
+use Rattle.serve_handshakes.specs.declared.answer.Answer.TheVariants.{Socket, Page, Script, Health, Metrics, BadRequest, Forbidden, NotFound, NotAllowed, Options, NoHost, LongHead, LongBody, Elsewhere, Unwell, Draining, Full, Crowded, Hasty, Unauthorized}
 use Rattle.serve_handshakes.specs.declared.head.Request.{Request}
 use Rattle.serve_handshakes.proofs.replying.reply_of.Goals as goal
 
@@ -23,6 +23,7 @@ plain_is request metrics LongHead is_sent reply other sent h = subst (λ b. IsPl
 plain_is request metrics LongBody is_sent reply other sent h = subst (λ b. IsPlainReply metrics LongBody b reply) sent h
 plain_is request metrics Elsewhere is_sent reply other sent h = subst (λ b. IsPlainReply metrics Elsewhere b reply) sent h
 plain_is request metrics Unwell is_sent reply other sent h = subst (λ b. IsPlainReply metrics Unwell b reply) sent h
+plain_is request metrics Draining is_sent reply other sent h = subst (λ b. IsPlainReply metrics Draining b reply) sent h
 plain_is request metrics Full is_sent reply other sent h = subst (λ b. IsPlainReply metrics Full b reply) sent h
 plain_is request metrics Crowded is_sent reply other sent h = subst (λ b. IsPlainReply metrics Crowded b reply) sent h
 plain_is request metrics Hasty is_sent reply other sent h = subst (λ b. IsPlainReply metrics Hasty b reply) sent h
