@@ -20,12 +20,18 @@ use Rattle.link_lines.specs.contracts.hearer.Telling as Telling
 use Rattle.link_lines.specs.contracts.lines.Line as Line
 use Rattle.node_system.specs.contracts.watch.Bell as Bell
 use Rattle.node_system.specs.contracts.watch.Watch as Watch
+use Rattle.node_lives.specs.contracts.file.LifeFile as LifeFile
 use Rattle.node_log.specs.contracts.lines.LogFormat as LogFormat
 use Rattle.link_rules.specs.contracts.end.LinkEnd as LinkEnd
 use Rattle.link_rules.specs.contracts.lives.Life as Life
 use Rattle.link_rules.specs.contracts.rebirths.Rebirths as Rebirths
 use Rattle.link_rules.specs.contracts.warning.LinkWarning as LinkWarning
 use Rattle.link_rules.specs.contracts.saying.Saying as Saying
+use Rattle.shout_cursors.specs.contracts.cursor.Cursor as Cursor
+use Rattle.shout_links.specs.contracts.origins.Kept as KeptOrigin
+use Rattle.shout_links.specs.contracts.origins.Origin as Origin
+use Rattle.shout_links.specs.contracts.origins.Origins as Origins
+use Rattle.shout_links.specs.contracts.pace.Pace as Pace
 use Rattle.link_threads.specs.contracts.book.Book as Book
 use Rattle.link_threads.specs.contracts.book.Newest as Newest
 use Rattle.link_threads.specs.contracts.dialling.Dialler as Dialler
@@ -34,7 +40,14 @@ use Rattle.link_threads.specs.contracts.incoming.Waiting as Waiting
 use Rattle.link_threads.specs.contracts.links.Links as Links
 use Rattle.link_threads.specs.contracts.reading.LineBytes as LineBytes
 use Rattle.link_threads.specs.contracts.reading.Readers as Readers
+use Rattle.link_threads.specs.contracts.roster.Answering as Answering
+use Rattle.link_threads.specs.contracts.roster.Roster as Roster
+use Rattle.link_threads.specs.contracts.roster.Sought as Sought
+use Rattle.link_threads.specs.contracts.seeking.Seeker as Seeker
 use Rattle.link_streams.specs.contracts.stopping.Stopping as Stopping
+use Rattle.link_threads.specs.contracts.shouts.Hall as Hall
+use Rattle.link_threads.specs.contracts.shouts.PeerShouts as PeerShouts
+use Rattle.link_threads.specs.contracts.shouts.Shouts as Shouts
 use Rattle.link_threads.specs.contracts.tallies.Tallies as Tallies
 use Rattle.link_threads.specs.contracts.tasks.LinkTask as LinkTask
 
@@ -164,8 +177,44 @@ tallies_sync = search (heap.crosses, sendable) depth 60 fits 20000
 readers_sync : IsSync (Readers.the_field).row
 readers_sync = search (line_send, fault_send, bytes_send, heap.crosses, sendable) depth 60 fits 20000
 
+life_file_sync : IsSync (LifeFile.the_field).row
+life_file_sync = search (heap.crosses, sendable) depth 60 fits 20000
+
+cursor_send : IsSend (Cursor.the_field).row
+cursor_send = search sendable depth 60 fits 20000
+
+origin_send : IsSend (Origin.the_field).row
+origin_send = search (name_send, sendable) depth 60 fits 20000
+
+kept_origin_send : IsSend (KeptOrigin.the_field).row
+kept_origin_send = search (cursor_send, origin_send, sendable) depth 60 fits 20000
+
+origins_send : IsSend (Origins.the_field).row
+origins_send = search (kept_origin_send, heap.crosses, sendable) depth 60 fits 20000
+
+pace_send : IsSend (Pace.the_field).row
+pace_send = search sendable depth 60 fits 20000
+
+hall_send : IsSend (Hall.the_field).row
+hall_send = search (origins_send, pace_send, sendable) depth 60 fits 20000
+
+peer_shouts_sync : IsSync (PeerShouts.the_field).row
+peer_shouts_sync = search (name_send, name_sync, heap.crosses, sendable) depth 60 fits 20000
+
+answering_send : IsSend (Answering.the_field).row
+answering_send = search (name_send, sendable) depth 60 fits 20000
+
+sought_send : IsSend (Sought.the_field).row
+sought_send = search (answering_send, heap.crosses, sendable) depth 60 fits 20000
+
+roster_sync : IsSync (Roster.the_field).row
+roster_sync = search (sought_send, heap.crosses, sendable) depth 60 fits 20000
+
+shouts_sync : IsSync (Shouts.the_field).row
+shouts_sync = search (hall_send, peer_shouts_sync, heap.crosses, sendable) depth 60 fits 20000
+
 pub links_sync : IsSync (Links.the_field).row
-links_sync = search (secret_send, secret_sync, delta_send, delta_sync, form_sync, waiting_sync, book_send, name_sync, stopping_sync, bell_sync, tallies_sync, log_format_sync, life_send, readers_sync, heap.crosses, sendable) depth 60 fits 20000
+links_sync = search (secret_send, secret_sync, delta_send, delta_sync, form_sync, waiting_sync, book_send, name_sync, stopping_sync, bell_sync, tallies_sync, log_format_sync, life_send, life_file_sync, readers_sync, shouts_sync, roster_sync, heap.crosses, sendable) depth 60 fits 20000
 
 -- ---- what is given
 
@@ -178,8 +227,11 @@ watch_send = search (heap.crosses, sendable) depth 60 fits 20000
 door_send : IsSend (LinkDoor.the_field).row
 door_send = search (watch_send, heap.crosses, sendable) depth 60 fits 20000
 
+seeker_send : IsSend (Seeker.the_field).row
+seeker_send = search (heap.crosses, sendable) depth 60 fits 20000
+
 pub task_send : IsSend (LinkTask.the_field).row
-task_send = search (dialler_send, door_send, sendable) depth 60 fits 20000
+task_send = search (dialler_send, door_send, seeker_send, sendable) depth 60 fits 20000
 
 pub task_row_send : IsSend LinkTask.the_row
 task_row_send = search (task_send, sendable) depth 60 fits 20000

@@ -48,3 +48,29 @@ pub record AreButKeys (old new : LinkTasks) : Type 0 where
   pub stopping : new.links.stopping ≡ old.links.stopping
   pub has_met : new.links.has_met ≡ old.links.has_met
   pub tallies : new.links.tallies ≡ old.links.tallies
+  pub kept : new.links.kept ≡ old.links.kept
+  pub roster : new.links.roster ≡ old.links.roster
+
+-- nothing but the file that keeps the node's life may differ
+pub record AreButKept (old new : LinkTasks) : Type 0 where
+  pub tasks : new.tasks ≡ old.tasks
+  pub alloc : new.links.alloc ≡ old.links.alloc
+  pub format : new.links.format ≡ old.links.format
+  pub life : new.links.life ≡ old.links.life
+  pub shards : new.links.shards ≡ old.links.shards
+  pub speaks : new.links.speaks ≡ old.links.speaks
+  pub mailboxes : new.links.mailboxes ≡ old.links.mailboxes
+  pub dialled : new.links.dialled ≡ old.links.dialled
+  pub newest : new.links.newest ≡ old.links.newest
+  pub speak_two : new.links.speak_two ≡ old.links.speak_two
+  pub waiting : new.links.waiting ≡ old.links.waiting
+  pub readers : new.links.readers ≡ old.links.readers
+  pub book : new.links.book ≡ old.links.book
+  pub time : new.links.time ≡ old.links.time
+  pub bell : new.links.bell ≡ old.links.bell
+  pub stopping : new.links.stopping ≡ old.links.stopping
+  pub has_met : new.links.has_met ≡ old.links.has_met
+  pub tallies : new.links.tallies ≡ old.links.tallies
+  pub keys : new.links.keys ≡ old.links.keys
+  pub shouts : new.links.shouts ≡ old.links.shouts
+  pub roster : new.links.roster ≡ old.links.roster

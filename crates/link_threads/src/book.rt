@@ -168,6 +168,17 @@ impl Book {
         }
     }
 
+    /// The nodes from which a link has come in and not ended, as far as there is memory for them.
+    pub(crate) fn here(&self, alloc: Global) -> Vec<NodeName> {
+        let mut names = Vec::new(alloc);
+        for newest in self.newest.iter() {
+            if !newest.has_ended {
+                let _lost = names.push(newest.name);
+            }
+        }
+        names
+    }
+
     /// The link of this number has ended.
     pub(crate) fn ends(&mut self, number: u64) {
         for newest in self.newest.iter_mut() {

@@ -1,6 +1,7 @@
 //! The threads that dial other nodes, one each.
 ghost use Rattle.std.specs.Prelude.{◌≡◌};
 
+use crate::calling::{Called, Target, settles, stream_to};
 use crate::keyed::{Shown, line_bytes, shows_key};
 use crate::links::{Cuts, Links, Place, Wakes};
 use crate::lives::{given_up, owning};
@@ -8,31 +9,23 @@ use crate::node::Node;
 use crate::runtime::LinkRuntime;
 use crate::serving::{coming_from, end_of};
 use delta_range::Delta;
-use link_lines::{Line, LinkFault};
+use link_lines::Line;
 use link_pool_port::{PoolLinkPort, bare_beat, fitting_beat};
 use link_rules::{LinkEnd, LinkWarning, MOST_AHEAD, greeted, is_key_wanted, known_line};
 use link_streams::{LONG_LINE_BYTES, LinkStream, time_behind};
 use node_links::{
     DialFault, End, Exchanged, Link, Peer, Untold, exchange, next_form, read_line, write_line,
 };
-use node_system::is_no_file;
 use node_threads::{first_behind, from_shard};
 use orswot_core::Form;
 use presence_base::{NodeName, Replica};
 use shard_pool::{Gate, Lanes, Pool};
-use std::io;
-use std::net::{Net, SocketAddr, TcpListener, TcpStream, ToSocketAddrs};
+use std::rt::Files;
 use std::sync::{Arc, Wait};
-use std::time::{Clock, Duration};
+use std::time::Clock;
 
 /// How long one wait for beats lasts, in milliseconds.
-const IDLE_MILLISECONDS: u64 = 1_000;
-
-/// How long the other node may take to answer a call, in milliseconds.
-const CONNECT_MILLISECONDS: u64 = 1_000;
-
-/// How often the other node's answers are still looked for once the links are to end: for a second in all.
-const LAST_LOOKS: u32 = 5;
+pub(crate) const IDLE_MILLISECONDS: u64 = 1_000;
 
 /// How many bytes are looked at of what answers a hello: one more than an answer has.
 const MAX_ANSWER_BYTES: usize = LONG_LINE_BYTES + 1;
@@ -72,11 +65,16 @@ impl Drop for Dialler {
 }
 
 impl Dialler {
-    // What is said of its links, and where it is kept.
-    fn place(&self) -> Place<'_> {
-        Place {
-            words: self.place.as_str(),
-            page: self.place.as_str(),
+    /// The node that it dials.
+    pub(crate) fn called(&self) -> Called<'_> {
+        Called {
+            number: self.number,
+            name: Some(self.name),
+            target: Target::Host(self.host.as_str(), self.port),
+            place: Place {
+                words: self.place.as_str(),
+                page: self.place.as_str(),
+            },
         }
     }
 }
@@ -129,61 +127,6 @@ struct Said {
     has_part: bool,
 }
 
-// Why no socket could be had.
-fn unreached(error: &io::Error) -> LinkEnd {
-    if is_no_file(error) {
-        LinkEnd::NoFile
-    } else {
-        LinkEnd::NotReached
-    }
-}
-
-// Why no address could be had for a host.
-fn unfound(error: &io::Error) -> LinkEnd {
-    if is_no_file(error) {
-        LinkEnd::NoFile
-    } else {
-        LinkEnd::HostNotFound
-    }
-}
-
-// A socket at this address, if somebody answers there.
-fn call<R>(rt: &R, address: SocketAddr) -> io::Result<TcpStream>
-where
-    R: Net<Listener = TcpListener, Stream = TcpStream>,
-{
-    let time = Duration::from_millis(CONNECT_MILLISECONDS);
-    TcpStream::connect_timeout(rt, &address, time)
-}
-
-// A host without the brackets in which an IPv6 address may stand.
-fn bare(host: &str) -> &str {
-    match host.strip_prefix('[') {
-        Some(rest) => rest.strip_suffix(']').unwrap_or(host),
-        None => host,
-    }
-}
-
-// A socket at the first of the host's addresses where somebody answers.
-fn reach<R>(rt: &R, dialler: &Dialler) -> Result<TcpStream, LinkEnd>
-where
-    R: Net<Listener = TcpListener, Stream = TcpStream>,
-{
-    let place = (bare(dialler.host.as_str()), dialler.port);
-    let addresses = match place.to_socket_addrs(rt) {
-        Ok(addresses) => addresses,
-        Err(error) => return Err(unfound(&error)),
-    };
-    let mut why = LinkEnd::NotReached;
-    for address in addresses {
-        match call(rt, address) {
-            Ok(socket) => return Ok(socket),
-            Err(error) => why = unreached(&error),
-        }
-    }
-    Err(why)
-}
-
 // One exchange: the line goes out, and what comes is done.
 fn say<R, G, L, W>(
     node: Node<'_, R, G, L, W>,
@@ -192,7 +135,7 @@ fn say<R, G, L, W>(
     line: &Line,
 ) -> Result<Said, LinkEnd>
 where
-    R: Wait + Clock + Print + Eprint,
+    R: Wait + Clock + Files + Print + Eprint,
     G: Gate,
     L: Lanes,
     W: Wakes,
@@ -234,7 +177,7 @@ fn say_known<R, G, L, W>(
     other: &Replica,
 ) -> Result<(), LinkEnd>
 where
-    R: Wait + Clock + Print + Eprint,
+    R: Wait + Clock + Files + Print + Eprint,
     G: Gate,
     L: Lanes,
     W: Wakes,
@@ -247,29 +190,6 @@ where
         }
     }
     Ok(())
-}
-
-// The stream to the node that is dialled. Where nobody answers, the next hello is of this form.
-fn stream_to<'a, R>(
-    rt: &'a R,
-    links: &'a Links,
-    dialler: &Dialler,
-    form: &mut Form,
-) -> Result<LinkStream<'a, R>, LinkEnd>
-where
-    R: LinkRuntime,
-{
-    let socket = match reach(rt, dialler) {
-        Ok(socket) => socket,
-        Err(end) => {
-            *form = links.speaks;
-            return Err(end);
-        }
-    };
-    match LinkStream::new(rt, links.alloc, socket, &links.stopping, LAST_LOOKS) {
-        Ok(stream) => Ok(stream),
-        Err(_) => Err(LinkEnd::Fault(DialFault::Link(LinkFault::ReadFailed))),
-    }
 }
 
 // This node's hello goes out, and the other one's comes: who is there. A node with keys of links may want one shown in its place.
@@ -299,7 +219,7 @@ fn greets<R: Clock>(links: &Links, dialled: &mut Dialled<'_, R>) -> Result<Repli
 // and who is there. The form is that of this node's hello, and then that of its next one.
 fn link_to<'a, R, G, L, W>(
     node: Node<'a, R, G, L, W>,
-    dialler: &Dialler,
+    called: Called<'_>,
     form: &mut Form,
 ) -> Result<(Dialled<'a, R>, Replica), LinkEnd>
 where
@@ -310,9 +230,9 @@ where
     requires { node.links.now.shards ≡ node.pool.now.shards }
 {
     let (rt, links) = (node.rt, node.links);
-    let mut stream = stream_to(rt, links, dialler, form)?;
+    let mut stream = stream_to(rt, links, called, form)?;
     let life = links.life(rt);
-    let shown = shows_key(rt, links, &mut stream, &life.own, &dialler.name)?;
+    let shown = shows_key(rt, links, &mut stream, &life.own, called.name)?;
     let speaks = *form;
     *form = next_form(links.speaks, speaks);
     let peer = Peer::new(life.own, links.shards, End::Dialling, speaks);
@@ -327,11 +247,17 @@ where
     };
     let other = greets(links, &mut dialled)?;
     *form = links.speaks;
-    greeted(&life.own, Some(dialler.name), &other)?;
+    settles(
+        rt,
+        links,
+        called,
+        greeted(&life.own, called.name, &other),
+        &other,
+    )?;
     if let Some(line) = life.first_line() {
-        let _said = say(node, &mut dialled, dialler.place(), &line)?;
+        let _said = say(node, &mut dialled, called.place, &line)?;
     }
-    say_known(node, &mut dialled, dialler.place(), &other)?;
+    say_known(node, &mut dialled, called.place, &other)?;
     Ok((dialled, other))
 }
 
@@ -360,7 +286,7 @@ fn send_beat<R, G, L, W>(
     beat: &Line,
 ) -> Result<(), LinkEnd>
 where
-    R: Wait + Clock + Print + Eprint,
+    R: Wait + Clock + Files + Print + Eprint,
     G: Gate,
     L: Lanes,
     W: Wakes,
@@ -384,7 +310,7 @@ fn send_all<R, G, L, W>(
     cuts: &[(u32, Arc<Delta>)],
 ) -> Result<(), Broken>
 where
-    R: Wait + Clock + Print + Eprint,
+    R: Wait + Clock + Files + Print + Eprint,
     G: Gate,
     L: Lanes,
     W: Wakes,
@@ -414,7 +340,7 @@ fn send_more<R, G, L, W>(
     cuts: &[(u32, Arc<Delta>)],
 ) -> Result<(), Broken>
 where
-    R: Wait + Clock + Print + Eprint,
+    R: Wait + Clock + Files + Print + Eprint,
     G: Gate,
     L: Lanes,
     W: Wakes,
@@ -443,8 +369,8 @@ fn behind(broken: Option<Broken>, end: LinkEnd, shard: u32) -> Broken {
     }
 }
 
-// A link that may be up.
-struct State<'a, R: Clock> {
+/// A link that may be up.
+pub(crate) struct State<'a, R: Clock> {
     dialled: Option<Dialled<'a, R>>,
     // The form of the next hello.
     form: Form,
@@ -467,8 +393,18 @@ impl<R: Clock> Drop for State<'_, R> {
 }
 
 impl<'a, R: Clock> State<'a, R> {
+    /// No link is up, and the next hello is of this form.
+    pub(crate) fn new(form: Form) -> State<'a, R> {
+        State {
+            dialled: None,
+            form,
+            first: 0,
+            was_cut: false,
+        }
+    }
+
     // The link went, or can't be had.
-    fn goes(&mut self, rt: &R, links: &Links, dialler: &Dialler, end: LinkEnd)
+    fn goes(&mut self, rt: &R, links: &Links, called: Called<'_>, end: LinkEnd)
     where
         R: Wait + Eprint,
     {
@@ -480,11 +416,27 @@ impl<'a, R: Clock> State<'a, R> {
             }
         }
         self.dialled = None;
-        links.tell_down(rt, dialler.place(), end);
+        if let (None, Some(roster)) = (called.name, &links.roster) {
+            roster.goes(rt, called.number);
+        }
+        if !called.is_quiet(end) {
+            links.tell_down(rt, called.place, end);
+        }
+    }
+
+    /// The link ends, since another node is to be dialled.
+    pub(crate) fn ends_quietly(&mut self, links: &Links) {
+        if self.dialled.is_some() {
+            links.tallies.count_peer_down();
+        }
+        self.dialled = None;
+        self.form = links.speaks;
+        self.first = 0;
+        self.was_cut = false;
     }
 
     // A link that was begun before the links began anew ends: whether one did.
-    fn ends_old(&mut self, rt: &R, links: &Links, dialler: &Dialler) -> bool
+    fn ends_old(&mut self, rt: &R, links: &Links, called: Called<'_>) -> bool
     where
         R: Wait + Eprint,
     {
@@ -493,20 +445,20 @@ impl<'a, R: Clock> State<'a, R> {
             None => false,
         };
         if is_old {
-            self.goes(rt, links, dialler, LinkEnd::Reborn);
+            self.goes(rt, links, called, LinkEnd::Reborn);
         }
         is_old
     }
 
     // A link of the first form ends where the other node speaks the second, as this one does: it is dialled in that.
-    fn ends_lower(&mut self, links: &Links, dialler: &Dialler) {
+    fn ends_lower(&mut self, links: &Links, called: Called<'_>) {
         let Some(dialled) = &self.dialled else {
             return;
         };
         let Some(form) = dialled.link.peer.form() else {
             return;
         };
-        if links.dials_higher(dialler.number, form) {
+        if links.dials_higher(called.number, form) {
             links.tallies.count_peer_down();
             self.dialled = None;
             self.form = links.speaks;
@@ -514,7 +466,7 @@ impl<'a, R: Clock> State<'a, R> {
     }
 
     // Says that the link has stood for a while, once, and that the other node doesn't dial this one, where it doesn't.
-    fn stands(&mut self, rt: &R, links: &Links, dialler: &Dialler)
+    fn stands(&mut self, rt: &R, links: &Links, called: Called<'_>)
     where
         R: Wait + Eprint,
     {
@@ -529,14 +481,14 @@ impl<'a, R: Clock> State<'a, R> {
         let Some(other) = dialled.link.peer.other() else {
             return;
         };
-        links.tell_up(rt, dialler.place(), &other, true);
+        links.tell_up(rt, called.place, &other, true);
         if !coming_from(rt, links, &other) {
-            links.tell_odd(rt, dialler.place(), LinkWarning::NotDialling);
+            links.tell_odd(rt, called.place, LinkWarning::NotDialling);
         }
     }
 
     // The link comes up, if it is not.
-    fn comes<G, L, W>(&mut self, node: Node<'a, R, G, L, W>, dialler: &Dialler)
+    fn comes<G, L, W>(&mut self, node: Node<'a, R, G, L, W>, called: Called<'_>)
     where
         R: LinkRuntime,
         G: Gate,
@@ -548,13 +500,13 @@ impl<'a, R: Clock> State<'a, R> {
             return;
         }
         let (rt, links) = (node.rt, node.links);
-        match link_to(node, dialler, &mut self.form) {
+        match link_to(node, called, &mut self.form) {
             Ok((dialled, other)) => {
                 self.dialled = Some(dialled);
                 links.tallies.count_peer_up();
-                links.tell_up(rt, dialler.place(), &other, false);
+                links.tell_up(rt, called.place, &other, false);
             }
-            Err(end) => self.goes(rt, links, dialler, end),
+            Err(end) => self.goes(rt, links, called, end),
         }
     }
 
@@ -562,11 +514,11 @@ impl<'a, R: Clock> State<'a, R> {
     fn sends<G, L, W>(
         &mut self,
         node: Node<'_, R, G, L, W>,
-        dialler: &Dialler,
+        called: Called<'_>,
         cuts: &[(u32, Arc<Delta>)],
     )
     where
-        R: Wait + Clock + Print + Eprint,
+        R: Wait + Clock + Files + Print + Eprint,
         G: Gate,
         L: Lanes,
         W: Wakes,
@@ -575,9 +527,9 @@ impl<'a, R: Clock> State<'a, R> {
         let Some(dialled) = &mut self.dialled else {
             return;
         };
-        if let Err(broken) = send_all(node, dialled, dialler.place(), cuts) {
+        if let Err(broken) = send_all(node, dialled, called.place, cuts) {
             self.first = first_behind(broken.shard);
-            self.goes(node.rt, node.links, dialler, broken.end);
+            self.goes(node.rt, node.links, called, broken.end);
         }
     }
 
@@ -585,11 +537,11 @@ impl<'a, R: Clock> State<'a, R> {
     fn sends_parts<G, L, W>(
         &mut self,
         node: Node<'_, R, G, L, W>,
-        dialler: &Dialler,
+        called: Called<'_>,
         cuts: &[(u32, Arc<Delta>)],
     )
     where
-        R: Wait + Clock + Print + Eprint,
+        R: Wait + Clock + Files + Print + Eprint,
         G: Gate,
         L: Lanes,
         W: Wakes,
@@ -604,18 +556,18 @@ impl<'a, R: Clock> State<'a, R> {
             if dialled.in_parts.is_empty() || passed >= PARTS_MILLISECONDS {
                 return;
             }
-            if let Err(broken) = send_more(node, dialled, dialler.place(), cuts) {
+            if let Err(broken) = send_more(node, dialled, called.place, cuts) {
                 self.first = first_behind(broken.shard);
-                self.goes(node.rt, node.links, dialler, broken.end);
+                self.goes(node.rt, node.links, called, broken.end);
             }
         }
     }
 
-    // The beats of a period go out, first those of the shards that come behind the one that didn't get through last.
-    fn beats<G, L, W>(
+    /// The beats of a period go out, first those of the shards that come behind the one that didn't get through last.
+    pub(crate) fn beats<G, L, W>(
         &mut self,
         node: Node<'a, R, G, L, W>,
-        dialler: &Dialler,
+        called: Called<'_>,
         cuts: &[(u32, Arc<Delta>)],
     )
     where
@@ -627,18 +579,18 @@ impl<'a, R: Clock> State<'a, R> {
     {
         let (rt, links) = (node.rt, node.links);
         let (first, last) = from_shard(cuts, self.first);
-        let _ended = self.ends_old(rt, links, dialler);
-        self.ends_lower(links, dialler);
-        self.comes(node, dialler);
-        self.sends(node, dialler, first);
-        self.sends(node, dialler, last);
-        self.sends_parts(node, dialler, cuts);
-        self.stands(rt, links, dialler);
+        let _ended = self.ends_old(rt, links, called);
+        self.ends_lower(links, called);
+        self.comes(node, called);
+        self.sends(node, called, first);
+        self.sends(node, called, last);
+        self.sends_parts(node, called, cuts);
+        self.stands(rt, links, called);
     }
 
-    // This node says that it has ended, if the link is up. One that was cut since it stops, or is of an earlier turn, is
-    // dialled once more for that.
-    fn leaves<G, L, W>(&mut self, node: Node<'a, R, G, L, W>, dialler: &Dialler)
+    /// This node says that it has ended, if the link is up. One that was cut since it stops, or is of an earlier turn, is
+    /// dialled once more for that.
+    pub(crate) fn leaves<G, L, W>(&mut self, node: Node<'a, R, G, L, W>, called: Called<'_>)
     where
         R: LinkRuntime,
         G: Gate,
@@ -647,9 +599,9 @@ impl<'a, R: Clock> State<'a, R> {
         requires { node.links.now.shards ≡ node.pool.now.shards }
     {
         let (rt, links) = (node.rt, node.links);
-        let is_old = self.ends_old(rt, links, dialler);
+        let is_old = self.ends_old(rt, links, called);
         if self.was_cut || is_old {
-            self.comes(node, dialler);
+            self.comes(node, called);
         }
         let Some(dialled) = &mut self.dialled else {
             return;
@@ -657,13 +609,13 @@ impl<'a, R: Clock> State<'a, R> {
         let line = Line::PermDown {
             replica: dialled.link.peer.own(),
         };
-        let _said = say(node, dialled, dialler.place(), &line);
-        self.goes(rt, links, dialler, LinkEnd::Stopped);
+        let _said = say(node, dialled, called.place, &line);
+        self.goes(rt, links, called, LinkEnd::Stopped);
     }
 }
 
 // Sends the beats that are posted for the node that is dialled. The link is dialled where it is not up.
-fn send_posted<R, G, L, W>(node: Node<'_, R, G, L, W>, dialler: &Dialler, mailbox: &Cuts)
+fn send_posted<R, G, L, W>(node: Node<'_, R, G, L, W>, called: Called<'_>, mailbox: &Cuts)
 where
     R: LinkRuntime,
     G: Gate,
@@ -672,22 +624,17 @@ where
     requires { node.links.now.shards ≡ node.pool.now.shards }
 {
     let (rt, links) = (node.rt, node.links);
-    let mut state = State {
-        dialled: None,
-        form: links.speaks,
-        first: 0,
-        was_cut: false,
-    };
+    let mut state = State::new(links.speaks);
     for _ in rt.forever() {
         let cuts = mailbox.take(rt, links.alloc, IDLE_MILLISECONDS);
         if links.is_stopped() {
             break;
         }
         if !cuts.is_empty() {
-            state.beats(node, dialler, cuts.as_slice());
+            state.beats(node, called, cuts.as_slice());
         }
     }
-    state.leaves(node, dialler);
+    state.leaves(node, called);
 }
 
 /// Dials a node and sends it the beats, until the links are to end.
@@ -712,6 +659,6 @@ where
             pool,
             wakes,
         };
-        send_posted(node, dialler, mailbox);
+        send_posted(node, dialler.called(), mailbox);
     }
 }

@@ -152,23 +152,26 @@ fn proof_to(
     }
 }
 
-/// Shows at the end that dials that this node has a key of the one that is wanted, once that has shown the same in its name.
-/// Where this node has no keys of links nothing is said.
+/// Shows at the end that dials that this node has a key of the one that is wanted, once that has shown the same in its name, which
+/// is to be known. Where this node has no keys of links nothing is said.
 pub(crate) fn shows_key<R: Clock + RandomSource>(
     rt: &R,
     links: &Links,
     stream: &mut LinkStream<'_, R>,
     own: &Replica,
-    wanted: &NodeName,
+    wanted: Option<NodeName>,
 ) -> Result<Shown, LinkEnd> {
     let Some(keys) = &links.keys else {
         return Ok(Shown { who: None });
+    };
+    let Some(wanted) = wanted else {
+        return Err(LinkEnd::NoNamedKey);
     };
     let first = nonce(rt, links)?;
     let first = first.as_bytes();
     says(links, stream, challenge_line(links.alloc, first))?;
     let line = hears_shown(links, stream)?;
-    let proof = proof_to(links, &**keys, (own, wanted), first, line.as_slice())?;
+    let proof = proof_to(links, &**keys, (own, &wanted), first, line.as_slice())?;
     says(links, stream, Ok(proof))?;
     Ok(Shown { who: None })
 }

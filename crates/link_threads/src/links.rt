@@ -5,17 +5,23 @@ use crate::book::{Begun, Book};
 use crate::incoming::Waiting;
 use crate::keyed::LinkKeys;
 use crate::reading::Readers;
+use crate::roster::{MAX_SOUGHT, Roster};
+use crate::shouts::Shouts;
 use crate::tallies::{LinkTallies, Tallies};
 use delta_range::Delta;
-use link_rules::{Life, LinkEnd, LinkWarning, down_line, up_line, warning_line};
+use link_rules::{Life, LinkEnd, LinkWarning, down_line, is_welcome, up_line, warning_line};
 use link_streams::Stopping;
 use node_links::begins_anew;
+use node_lives::LifeFile;
 use node_log::{Level, LogFormat, say_line};
 use node_system::Bell;
 use node_threads::Mailbox;
 use orswot_core::Form;
-use presence_base::{NodeName, Replica};
-use std::alloc::Global;
+use presence_base::{NodeName, Replica, Topic};
+use presence_journal::Payload;
+use std::alloc::{AllocError, Global};
+use std::collections::BTreeSet;
+use std::rt::Files;
 use std::sync::atomic::{AtomicBool, AtomicU64, Ordering};
 use std::sync::{Arc, Mutex, Wait};
 use std::time::Clock;
@@ -27,6 +33,15 @@ pub(crate) type Cuts = Mailbox<Arc<Delta>>;
 pub trait Wakes {
     /// Lets all clients be looked at.
     fn look(&self);
+
+    /// Lets those clients be looked at that have joined one of these topics.
+    fn tell_of<R: Wait>(&self, rt: &R, topics: &Arc<BTreeSet<Topic>>);
+
+    /// What is given to clients in the place of what another node shouted, where that isn't the same.
+    fn of_another(&self, alloc: Global, payload: &Payload) -> Result<Option<Payload>, AllocError>;
+
+    /// Whether shouts of other nodes may be given to clients now.
+    fn takes_shouts(&self) -> bool;
 }
 
 /// How a link is called, and under which place is kept what was said of it.
@@ -69,6 +84,12 @@ pub struct Links {
     pub(crate) tallies: Tallies,
     /// The keys of which both ends of a link show that they have one in common, if they are to.
     pub(crate) keys: Option<LinkKeys>,
+    /// The file that keeps the life under which the node is, if one does.
+    pub(crate) kept: Option<LifeFile>,
+    /// By which shouts go and come, where they go across nodes.
+    pub(crate) shouts: Option<Shouts>,
+    /// The places from which nodes are dialled that stand behind a name, where one is given.
+    pub(crate) roster: Option<Roster>,
     ghost some: { 1 ≤ shards },
 }
 
@@ -93,6 +114,9 @@ impl Drop for Links {
             has_met,
             tallies,
             keys,
+            kept,
+            shouts,
+            roster,
         } = self;
         drop(life);
         drop(mailboxes);
@@ -108,6 +132,9 @@ impl Drop for Links {
         drop(has_met);
         drop(tallies);
         drop(keys);
+        drop(kept);
+        drop(shouts);
+        drop(roster);
     }
 }
 
@@ -122,8 +149,66 @@ impl Links {
     }
 
     /// How often the links came and went so far, and what went over them.
-    pub fn tallies(&self) -> LinkTallies {
-        self.tallies.read(self.dialled.len() as u64)
+    pub fn tallies<R: Wait>(&self, rt: &R) -> LinkTallies {
+        let sought = match &self.roster {
+            Some(roster) => roster.count(rt),
+            None => 0,
+        };
+        self.tallies
+            .read((self.dialled.len() as u64).saturating_add(sought))
+    }
+
+    /// By which shouts go and come, where they go across nodes.
+    pub fn shouts(&self) -> Option<&Shouts> {
+        self.shouts.as_ref()
+    }
+
+    /// Sessions of this node made so many shouts more, which others are told of where they go across nodes.
+    pub fn has_shouted<R: Wait>(&self, rt: &R, shouts: u64) {
+        if let Some(shared) = &self.shouts {
+            shared.has_said(rt, shouts);
+        }
+    }
+
+    /// Whether none of other nodes' is taken while workers read nothing.
+    pub fn is_closed_to_shouts(&self) -> bool {
+        match &self.shouts {
+            Some(shared) => shared.is_closed(),
+            None => true,
+        }
+    }
+
+    /// From now on none is taken while workers read nothing, or some are.
+    pub fn close_to_shouts(&self, is_closed: bool) {
+        if let Some(shared) = &self.shouts {
+            shared.set_closed(is_closed);
+        }
+    }
+
+    /// Whether other nodes were told what was shouted here, but for those that have fallen behind.
+    pub fn were_told(&self) -> bool {
+        match &self.shouts {
+            Some(shared) => shared.were_told(),
+            None => true,
+        }
+    }
+
+    /// No checkpoint waits for those that weren't told yet, until they were.
+    pub fn leave_behind(&self) {
+        if let Some(shared) = &self.shouts {
+            shared.leave_behind();
+        }
+    }
+
+    /// How many links there may be with nodes that are dialled, where each has one each way, or two where shouts go across.
+    pub fn link_pairs(&self) -> u64 {
+        let sought = if self.roster.is_some() { MAX_SOUGHT } else { 0 };
+        let peers = self.dialled.len().saturating_add(sought) as u64;
+        if self.shouts.is_some() {
+            peers.saturating_mul(2)
+        } else {
+            peers
+        }
     }
 
     pub(crate) fn is_stopped(&self) -> bool {
@@ -141,6 +226,9 @@ impl Links {
         for mailbox in self.mailboxes.iter() {
             mailbox.ring();
         }
+        if let Some(shouts) = &self.shouts {
+            shouts.ring(rt);
+        }
     }
 
     /// The life of the node that a link which begins now speaks of.
@@ -156,6 +244,29 @@ impl Links {
         }
         let mut life = self.life.lock(rt);
         *life = life.hears_of(incarnation);
+    }
+
+    // Says that the file can't be written that keeps the node's life.
+    fn tell_unkept<R: Clock + Eprint>(&self, rt: &R, file: &LifeFile) {
+        let path = file.path.as_str();
+        let line = format!(in self.alloc;
+            "--state '{path}': the file can't be written: behind a crash other nodes show the rows of before for 30 seconds"
+        );
+        if let Ok(line) = line {
+            self.say(rt, Level::Warn, line.as_str());
+        }
+    }
+
+    /// Keeps the incarnation under which the node goes on, if there is a file for it, so that the life behind this one begins above
+    /// it, and says that this one is over. Where it can't be written that is said, and the node goes on.
+    pub(crate) fn keep<R: Files + Clock + Eprint>(&self, rt: &R, name: NodeName, incarnation: u64) {
+        let Some(file) = &self.kept else {
+            return;
+        };
+        let life = Replica { name, incarnation };
+        if file.keep(rt, self.alloc, &life).is_err() {
+            self.tell_unkept(rt, file);
+        }
     }
 
     /// Beats that were posted and not taken are never sent.
@@ -213,9 +324,28 @@ impl Links {
         }
     }
 
+    /// The number of the newest link from a node that this one dials, or 0.
+    pub(crate) fn number_of(&self, name: NodeName) -> u64 {
+        match self.newest_of(name) {
+            Some(newest) => newest.load(Ordering::SeqCst),
+            None => 0,
+        }
+    }
+
+    // The place of a node among those that are dialled, by its name or since it stands behind one.
+    fn number_for<R: Wait>(&self, rt: &R, name: NodeName) -> Option<usize> {
+        if let Some(at) = self.place_of(name) {
+            return Some(at);
+        }
+        match &self.roster {
+            Some(roster) => roster.place_of(rt, name),
+            None => None,
+        }
+    }
+
     /// A node that may be one of those that are dialled said hello in this form.
-    pub(crate) fn note_form(&self, name: NodeName, form: Form) {
-        let Some(at) = self.place_of(name) else {
+    pub(crate) fn note_form<R: Wait>(&self, rt: &R, name: NodeName, form: Form) {
+        let Some(at) = self.number_for(rt, name) else {
             return;
         };
         if let Some(speaks_two) = self.speak_two.get(at) {
@@ -256,6 +386,24 @@ impl Links {
     pub(crate) fn has_newer<R: Wait>(&self, rt: &R, name: NodeName, number: u64) -> bool {
         let book = self.book.lock(rt);
         book.has_newer(name, number)
+    }
+
+    /// Whether a link may come in from a node of this name: where some stand behind a name, from any.
+    pub(crate) fn welcomes(&self, name: &NodeName) -> bool {
+        self.roster.is_some() || is_welcome(self.dialled.as_slice(), name)
+    }
+
+    /// Whether nobody is dialled.
+    pub(crate) fn dials_nobody(&self) -> bool {
+        self.roster.is_none() && self.dialled.is_empty()
+    }
+
+    /// Whether a link has come in, and not ended, from a node that is dialled from nowhere.
+    pub(crate) fn has_stranger<R: Wait>(&self, rt: &R, roster: &Roster) -> bool {
+        let book = self.book.lock(rt);
+        let here = book.here(self.alloc);
+        drop(book);
+        here.iter().any(|name| !self.dialled.contains(name) && roster.place_of(rt, *name).is_none())
     }
 
     /// Whether any node was met at this place.
@@ -322,6 +470,16 @@ impl Links {
             return;
         }
         if let Ok(line) = warning_line(self.alloc, place.words, warning) {
+            self.say(rt, Level::Warn, line.as_str());
+        }
+    }
+
+    /// Says that a name has more addresses than are dialled.
+    pub(crate) fn tell_many<R: Clock + Eprint>(&self, rt: &R, place: &str, most: usize) {
+        let line = format!(in self.alloc;
+            "link {place}: the name has more addresses; so many are dialled: {most}"
+        );
+        if let Ok(line) = line {
             self.say(rt, Level::Warn, line.as_str());
         }
     }

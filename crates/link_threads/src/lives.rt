@@ -10,6 +10,7 @@ use link_streams::time_behind;
 use node_links::Peer;
 use presence_base::Replica;
 use shard_pool::{Gate, Lanes, Pool, PoolFault};
+use std::rt::Files;
 use std::sync::Wait;
 use std::time::Clock;
 
@@ -86,7 +87,8 @@ where
 }
 
 /// A link that said hello as this replica was told that it is gone: the node goes on under the next incarnation that it wasn't
-/// told of, unless it has since, or did so three times of late. Why the link ends.
+/// told of, unless it has since, or did so three times of late. No shard does before that incarnation is kept, where the node's
+/// life is. Why the link ends.
 pub(crate) fn given_up<R, G, L, W>(
     rt: &R,
     links: &Links,
@@ -95,7 +97,7 @@ pub(crate) fn given_up<R, G, L, W>(
     hello: &Replica,
 ) -> LinkEnd
 where
-    R: Wait + Clock + Print,
+    R: Wait + Clock + Files + Print + Eprint,
     G: Gate,
     L: Lanes,
     W: Wakes,
@@ -109,6 +111,7 @@ where
         Course::StaysGone => return LinkEnd::GivenUp,
         Course::GoesOn(incarnation) => incarnation,
     };
+    links.keep(rt, life.own.name, incarnation);
     let came = go_on_all(rt, links, pool, incarnation);
     let next = life.behind(incarnation, came, now);
     if !next.is_of(life.turn) {

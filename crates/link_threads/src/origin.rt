@@ -41,6 +41,16 @@ impl Origin {
         format!(in alloc; "{place}, {name}.{incarnation}")
     }
 
+    /// The same of a link of shouts, once it is known who is there.
+    pub(crate) fn of_shouts(&self, alloc: Global, other: &Replica) -> Result<Origin, AllocError> {
+        let named = self.words_with(alloc, other)?;
+        let place = named.as_str();
+        let name = other.name.as_str();
+        let words = format!(in alloc; "of shouts {place}")?;
+        let page = format!(in alloc; "of shouts from {name}")?;
+        Ok(Origin { words, page })
+    }
+
     /// Where it is told.
     pub(crate) fn place(&self) -> Place<'_> {
         Place {

@@ -1,15 +1,17 @@
 //! What the threads of links need of the system.
 use std::net::{Net, TcpListener, TcpStream};
 use std::random::RandomSource;
+use std::rt::Files;
 use std::sync::Wait;
 use std::time::Clock;
 
-/// What the threads of links need of the system: its sockets, the time, bytes that nobody foretells, and where to say what became
-/// of a link.
+/// What the threads of links need of the system: its sockets, the time, bytes that nobody foretells, where to say what became of a
+/// link, and the file that keeps the node's life.
 pub trait LinkRuntime: Net<Listener = TcpListener, Stream = TcpStream>
     + Wait
     + Clock
     + RandomSource
+    + Files
     + Print
     + Eprint {}
 
@@ -19,6 +21,7 @@ where
         + Wait
         + Clock
         + RandomSource
+        + Files
         + Print
         + Eprint,
 {}

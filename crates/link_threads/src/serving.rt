@@ -2,6 +2,7 @@
 ghost use Rattle.std.specs.Prelude.{◌≡◌};
 
 use crate::dialling::STANDING_MILLISECONDS;
+use crate::hearing::serve_shouts;
 use crate::keyed::{Shown, asks_for_key};
 use crate::links::{Links, Place, Wakes};
 use crate::lives::owning;
@@ -11,12 +12,13 @@ use crate::reading::{LineBytes, LineRead, Reader, unread};
 use link_lines::{Line, LinkFault, MAX_LINE_BYTES};
 use link_pool_port::PoolLinkPort;
 use link_rules::{
-    LinkEnd, LinkWarning, MOST_AHEAD, greeted, is_challenge, is_heard_anew, is_welcome, known_in,
+    LinkEnd, LinkWarning, MOST_AHEAD, greeted, is_challenge, is_heard_anew, known_in,
 };
 use link_streams::{Asking, LinkStream, MAX_LOOKS, time_behind};
 use node_links::{DialFault, End, Link, LinkPort, Peer, answer_line, hear_bytes};
 use presence_base::Replica;
 use shard_pool::{Gate, Lanes, Pool};
+use shout_lines::is_shout_line;
 use std::alloc::{AllocError, Global};
 use std::net::TcpStream;
 use std::random::RandomSource;
@@ -66,6 +68,8 @@ struct Incoming<'a, R: Clock> {
     reader: usize,
     // When each shard was told last that the other end was heard.
     heard: Vec<u64>,
+    // The bytes of the first line, where it was looked at whether they are those of a link of shouts.
+    first: Option<Vec<u8>>,
 }
 
 impl<R: Clock> Drop for Incoming<'_, R> {
@@ -83,12 +87,14 @@ impl<R: Clock> Drop for Incoming<'_, R> {
             shards,
             reader: _,
             heard,
+            first,
         } = self;
         drop(link);
         drop(origin);
         drop(shown);
         drop(shards);
         drop(heard);
+        drop(first);
     }
 }
 
@@ -99,12 +105,12 @@ impl<'a, R: Clock> Incoming<'a, R> {
         R: Wait + Eprint,
     {
         greeted(&self.link.peer.own(), None, other)?;
-        if !is_welcome(links.dialled.as_slice(), &other.name) {
+        if !links.welcomes(&other.name) {
             self.names(links, other);
             return Err(LinkEnd::NotAPeer);
         }
         if let Some(form) = self.link.peer.form() {
-            links.note_form(other.name, form);
+            links.note_form(rt, other.name, form);
         }
         self.begins(rt, links, other);
         self.says_up(rt, links, other);
@@ -112,7 +118,7 @@ impl<'a, R: Clock> Incoming<'a, R> {
         if let Ok(page) = page_of(links.alloc, other) {
             self.origin.page = page;
         }
-        if links.dialled.is_empty() {
+        if links.dials_nobody() {
             links.tell_odd(rt, self.origin.place(), LinkWarning::NotDialled);
         }
         if self.are_two {
@@ -368,6 +374,45 @@ impl<'a, R: Clock> Incoming<'a, R> {
         Err(LinkFault::ReadFailed)
     }
 
+    // The same, where they weren't looked at before, or why there are none.
+    fn line_bytes<G, L, W>(&mut self, node: Node<'a, R, G, L, W>) -> Result<Vec<u8>, LinkEnd>
+    where
+        R: Wait,
+        G: Gate,
+        L: Lanes,
+        W: Wakes,
+        requires { node.links.now.shards ≡ node.pool.now.shards }
+    {
+        if let Some(first) = self.first.take() {
+            return Ok(first);
+        }
+        match self.bytes(node) {
+            Ok(bytes) => Ok(bytes),
+            Err(fault) => Err(self.end_without(node.rt, node.links, fault)),
+        }
+    }
+
+    // Where shouts go across nodes, the bytes of the first line are looked at: those that are the hello of a link of shouts.
+    fn opens<G, L, W>(&mut self, node: Node<'a, R, G, L, W>) -> Result<Option<Vec<u8>>, LinkEnd>
+    where
+        R: Wait,
+        G: Gate,
+        L: Lanes,
+        W: Wakes,
+        requires { node.links.now.shards ≡ node.pool.now.shards }
+    {
+        if node.links.shouts.is_none() {
+            return Ok(None);
+        }
+        self.link.stream.awaits_hello();
+        let bytes = self.line_bytes(node)?;
+        if is_shout_line(bytes.as_slice()) {
+            return Ok(Some(bytes));
+        }
+        self.first = Some(bytes);
+        Ok(None)
+    }
+
     // The next line, or why there is none. That of a link which was replaced meanwhile is dropped.
     fn next_line<G, L, W>(&mut self, node: Node<'a, R, G, L, W>) -> Result<Line, LinkEnd>
     where
@@ -383,10 +428,7 @@ impl<'a, R: Clock> Incoming<'a, R> {
         } else {
             self.link.stream.awaits_hello();
         }
-        let bytes = match self.bytes(node) {
-            Ok(bytes) => bytes,
-            Err(fault) => return Err(self.end_without(rt, links, fault)),
-        };
+        let bytes = self.line_bytes(node)?;
         if !self.is_up && links.keys.is_none() && is_challenge(bytes.as_slice()) {
             return Err(LinkEnd::KeyWanted);
         }
@@ -397,6 +439,24 @@ impl<'a, R: Clock> Incoming<'a, R> {
             Ok(None) => Err(LinkEnd::Closed),
             Err(fault) => Err(self.end_without(rt, links, fault)),
         }
+    }
+
+    // The link is one of shouts, whose first line has these bytes: it is served until it ends.
+    fn hears_shouts<G, L, W>(&mut self, node: Node<'a, R, G, L, W>, hello: Vec<u8>) -> LinkEnd
+    where
+        R: Wait + Eprint,
+        G: Gate,
+        L: Lanes,
+        W: Wakes,
+        requires { node.links.now.shards ≡ node.pool.now.shards }
+    {
+        serve_shouts(
+            node,
+            &self.shown,
+            &mut self.origin,
+            &mut self.link.stream,
+            hello,
+        )
     }
 
     // What a line asks for is done, and what is odd about that told.
@@ -467,7 +527,8 @@ impl<R: Wait + Clock + Eprint> Incoming<'_, R> {
             links.tallies.count_down();
             links.ends(rt, self.number);
         }
-        if end != LinkEnd::Replaced {
+        let is_itself = end == LinkEnd::OwnReplica && links.roster.is_some();
+        if end != LinkEnd::Replaced && !is_itself {
             links.tell_down(rt, self.origin.place(), end);
         }
     }
@@ -526,6 +587,7 @@ where
         shards: Vec::new(links.alloc),
         reader: 0,
         heard: Vec::new(links.alloc),
+        first: None,
     })
 }
 
@@ -538,6 +600,11 @@ where
     W: Wakes,
     requires { node.links.now.shards ≡ node.pool.now.shards }
 {
+    match incoming.opens(node) {
+        Ok(Some(hello)) => return incoming.hears_shouts(node, hello),
+        Ok(None) => {}
+        Err(end) => return end,
+    }
     for _ in node.rt.forever() {
         if let Err(end) = incoming.exchange(node) {
             return end;

@@ -1,26 +1,34 @@
 //! What each of the threads of links does.
-ghost use Rattle.std.specs.Prelude.{◌≡◌, ◌≤◌, [], Some, vec_len, string_bytes, IfOk, OnOk};
+ghost use Rattle.std.specs.Prelude.{◌≡◌, ◌≤◌, [], Some, vec_len, string_bytes, option_map, IfOk, OnOk};
 ghost use Rattle.node_links.specs.Exchanges.{form_told as form_of_version};
 ghost use Rattle.link_threads.specs.Tasks.{AreFirst, Dials};
+ghost use Rattle.link_lines.specs.declared.lines.Line.TheVariants.{PermDown};
+ghost use Rattle.link_rules.specs.Lives.{first_line};
 ghost use Rattle.link_rules.specs.declared.words.TheConstants.{MAX_LINKS};
 
 use crate::book::Book;
 use crate::dialling::{Dialler, dial_one};
+use crate::finding::{dial_sought, tell_sought};
 use crate::incoming::{LISTENER, LinkDoor, Waiting};
 use crate::links::{Links, Wakes};
 use crate::reading::{Readers, read_long};
+use crate::roster::{MAX_SOUGHT, Roster};
 use crate::runtime::LinkRuntime;
+use crate::seeking::{Seeker, seek};
 use crate::serving::serve_links;
+use crate::shouting::tell_one;
+use crate::shouts::{PeerShouts, Shouts};
 use crate::tallies::Tallies;
 use crate::ticking::tick;
 use hmac_keys::Keys;
 use link_rules::{Life, MAX_LINKS};
-use link_streams::{Clerk, Stopping};
+use link_streams::{Clerk, Stopping, time_behind};
 use node_links::form_told;
+use node_lives::{LifeFile, NewLife};
 use node_log::LogFormat;
 use node_system::{Bell, Watch};
 use node_threads::Mailbox;
-use presence_base::{NodeName, Replica};
+use presence_base::NodeName;
 use shard_pool::{Gate, Lanes, Pool};
 use std::alloc::{AllocError, Global};
 use std::io;
@@ -41,14 +49,28 @@ pub enum LinkTask {
     Serve,
     /// Dials another node.
     Dial(Dialler),
+    /// Dials another node too, and tells it what is shouted here.
+    Tell(Dialler),
+    /// Asks which addresses a name has behind which nodes stand.
+    Seek(Seeker),
+    /// Dials the nodes at one of its addresses, from the place of this number.
+    DialSought(usize),
+    /// Dials them too, and tells them what is shouted here.
+    TellSought(usize),
 }
 
 impl Drop for LinkTask {
     fn drop(self) {
         match self {
-            LinkTask::Tick | LinkTask::Read(_) | LinkTask::Serve => {}
+            LinkTask::Tick
+            | LinkTask::Read(_)
+            | LinkTask::Serve
+            | LinkTask::DialSought(_)
+            | LinkTask::TellSought(_) => {}
+            LinkTask::Seek(seeker) => drop(seeker),
             LinkTask::Attend(door) => drop(door),
             LinkTask::Dial(dialler) => drop(dialler),
+            LinkTask::Tell(dialler) => drop(dialler),
         }
     }
 }
@@ -72,6 +94,10 @@ impl LinkTask {
             LinkTask::Read(number) => read_long(rt, links, number),
             LinkTask::Serve => serve_links(rt, links, pool, wakes),
             LinkTask::Dial(dialler) => dial_one(rt, links, pool, wakes, &dialler),
+            LinkTask::Tell(dialler) => tell_one(rt, links, pool, wakes, &dialler),
+            LinkTask::Seek(seeker) => seek(rt, links, &seeker),
+            LinkTask::DialSought(number) => dial_sought(rt, links, pool, wakes, number),
+            LinkTask::TellSought(number) => tell_sought(rt, links, pool, wakes, number),
         }
     }
 }
@@ -108,9 +134,24 @@ fn dialler_of(
     })
 }
 
+// The thread that tells a node what is shouted here.
+fn teller_of(
+    alloc: Global,
+    number: usize,
+    name: NodeName,
+    host: &str,
+    port: u16,
+) -> Result<Dialler, AllocError> {
+    let mut dialler = dialler_of(alloc, number, name, host, port)?;
+    let place = dialler.place.as_str();
+    let words = format!(in alloc; "of shouts {place}")?;
+    dialler.place = words;
+    Ok(dialler)
+}
+
 impl LinkTasks {
     ghost use Rattle.std.specs.Prelude.{◌≡◌, Some};
-    ghost use Rattle.link_threads.specs.Tasks.{AreButKeys};
+    ghost use Rattle.link_threads.specs.Tasks.{AreButKept, AreButKeys};
 
     /// What is shared, and what each thread does.
     pub fn into_parts(self) -> (Links, Vec<LinkTask>)
@@ -128,6 +169,77 @@ impl LinkTasks {
         ensures rest { AreButKeys self.old self.new }
     {
         self.links.keys = Some(keys);
+    }
+
+    /// This file keeps the life under which the node is, from the next one on.
+    pub fn keeps(&mut self, file: LifeFile)
+        ensures file { self.new.links.kept ≡ Some file }
+        ensures shards { self.new.links.shards ≡ self.old.links.shards }
+        ensures rest { AreButKept self.old self.new }
+    {
+        self.links.kept = Some(file);
+    }
+
+    /// Shouts go across nodes: of what others tell so many are taken a second. The number is the incarnation under which this
+    /// process began.
+    pub fn shares_shouts(&mut self, alloc: Global, journal: u64, most: u32)
+        ensures shards { self.new.links.shards ≡ self.old.links.shards }
+        ensures tasks { self.new.tasks ≡ self.old.tasks }
+        ensures mailboxes { self.new.links.mailboxes ≡ self.old.links.mailboxes }
+    {
+        self.links.shouts = Some(Shouts::new(alloc, journal, most));
+    }
+
+    /// Tells the node of this name what is shouted here, at this host and port, where shouts go across nodes.
+    pub fn tell(
+        &mut self,
+        alloc: Global,
+        name: NodeName,
+        host: &str,
+        port: u16,
+    ) -> Result<(), AllocError>
+        ensures shards { self.new.links.shards ≡ self.old.links.shards }
+    {
+        let Some(shouts) = &mut self.links.shouts else {
+            return Ok(());
+        };
+        let dialler = teller_of(alloc, shouts.peers.len(), name, host, port)?;
+        shouts.peers.push(PeerShouts::new(Some(name)))?;
+        self.tasks.push(LinkTask::Tell(dialler))?;
+        Ok(())
+    }
+
+    // A further place from which nodes are dialled that stand behind a name.
+    fn add_place(&mut self, alloc: Global) -> Result<(), AllocError>
+        ensures shards { self.new.links.shards ≡ self.old.links.shards }
+    {
+        let number = self.links.mailboxes.len();
+        self.tasks.push(LinkTask::DialSought(number))?;
+        self.links.mailboxes.push(Mailbox::new(alloc))?;
+        self.links.newest.push(AtomicU64::new(0))?;
+        self.links.speak_two.push(AtomicBool::new(false))?;
+        if let Some(shouts) = &mut self.links.shouts {
+            shouts.peers.push(PeerShouts::new(None))?;
+            self.tasks.push(LinkTask::TellSought(number))?;
+        }
+        Ok(())
+    }
+
+    /// Dials the nodes that stand behind the name of this host too, at this port of each of its addresses, and tells them what is
+    /// shouted here, where shouts go across nodes. It comes behind those that are named. Their long lines are read by the thread of
+    /// those that aren't dialled.
+    pub fn seek(&mut self, alloc: Global, host: &str, port: u16) -> Result<(), AllocError>
+        ensures shards { self.new.links.shards ≡ self.old.links.shards }
+    {
+        let place = format!(in alloc; "to the nodes of {host}:{port}")?;
+        let host = String::from_str(alloc, host)?;
+        self.links.roster = Some(Roster::new(alloc, self.links.mailboxes.len())?);
+        self.tasks
+            .push(LinkTask::Seek(Seeker { host, port, place }))?;
+        for _ in 0..MAX_SOUGHT {
+            self.add_place(alloc)?;
+        }
+        Ok(())
     }
 
     /// Dials the node of this name too, at this host and port. Its long lines are read by a thread of their own.
@@ -187,7 +299,8 @@ fn first_tasks(alloc: Global, door: LinkDoor) -> Result<Vec<LinkTask>, AllocErro
 /// A node as it says hello on its links.
 #[derive(Clone, Copy)]
 pub struct LinkNode {
-    pub own: Replica,
+    /// The life that it begins.
+    pub life: NewLife,
     pub shards: u32,
     /// The highest version of links that it speaks.
     pub version: u32,
@@ -195,9 +308,20 @@ pub struct LinkNode {
     pub format: LogFormat,
 }
 
+// The life of the node as its links see it when they begin: where the one before it is known, they say first that it is over.
+fn first_life(life: NewLife) -> Life
+    ensures own { result.own ≡ life.own }
+    ensures first { first_line result ≡ option_map PermDown life.before }
+{
+    Life {
+        before: life.before,
+        ..Life::first(life.own)
+    }
+}
+
 /// What the threads of links of this node share, and what each of them does: links come in at this listening socket, where
 /// there is one, from these addresses, or where there are none from any. No node is dialled yet.
-pub fn tasks_for<R: Net>(
+pub fn tasks_for<R: Net + Clock>(
     net: &R,
     alloc: Global,
     node: LinkNode,
@@ -220,7 +344,7 @@ pub fn tasks_for<R: Net>(
     let links = Links {
         alloc,
         format: node.format,
-        life: Mutex::new(Life::first(node.own)),
+        life: Mutex::new(first_life(node.life)),
         shards: node.shards,
         speaks: form_told(Some(u64::from(node.version))),
         mailboxes: Vec::new(alloc),
@@ -230,12 +354,15 @@ pub fn tasks_for<R: Net>(
         waiting: Waiting::new(alloc, MAX_LINKS),
         readers,
         book: Mutex::new(Book::new(alloc)),
-        time: AtomicU64::new(0),
+        time: AtomicU64::new(time_behind(net, 0)),
         bell,
         stopping: Stopping::new(),
         has_met: AtomicBool::new(false),
         tallies: Tallies::new(),
         keys: None,
+        kept: None,
+        shouts: None,
+        roster: None,
     };
     Ok(LinkTasks { links, tasks })
 }

@@ -5,7 +5,7 @@ use Rattle.node_log.specs.declared.quota.TheConstants.{LINES_A_SECOND}
 use Rattle.node_log.specs.declared.reasons.Deed.{Deed}
 use Rattle.node_log.specs.declared.reasons.Deed.TheVariants as deeds
 use Rattle.node_log.specs.declared.reasons.Reason.{Reason}
-use Rattle.node_log.specs.declared.reasons.Reason.TheVariants.{BadRequest, Forbidden, NotFound, NotAllowed, LongHead, LongBody, Full, Crowded, Hasty, Handshakes, Unwatched, Queue, Late, NoHttp, Silent, Binary, NotAMessage, TooLong, Backlog, Fault, Stalled, Opened, Left, Lost, Stopped, Gone, Unauthorized, Expired}
+use Rattle.node_log.specs.declared.reasons.Reason.TheVariants.{BadRequest, Forbidden, NotFound, NotAllowed, LongHead, LongBody, Full, Crowded, Hasty, Handshakes, Unwatched, Queue, Late, NoHttp, Silent, Binary, NotAMessage, TooLong, Backlog, Fault, Stalled, Opened, Left, Lost, Stopped, Gone, Unauthorized, Expired, PutOut}
 use Rattle.node_log.specs.declared.reasons.Shown.{Shown}
 use Rattle.node_log.specs.declared.reasons.Shown.TheVariants as shown
 
@@ -39,6 +39,7 @@ deed_of Stopped = deeds.Went
 deed_of Gone = deeds.Went
 deed_of Unauthorized = deeds.Refused
 deed_of Expired = deeds.Closed
+deed_of PutOut = deeds.Closed
 
 -- the server did it, for cause
 abbrev pub is_for_cause : Deed → Bool

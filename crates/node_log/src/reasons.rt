@@ -89,10 +89,11 @@ pub enum Reason {
     Gone,
     Unauthorized,
     Expired,
+    PutOut,
 }
 
 /// How many reasons there are.
-pub(crate) const REASONS: usize = 28;
+pub(crate) const REASONS: usize = 29;
 
 /// Each of them, in their order.
 pub(crate) const EACH_REASON: [Reason; REASONS] = [
@@ -124,6 +125,7 @@ pub(crate) const EACH_REASON: [Reason; REASONS] = [
     Reason::Gone,
     Reason::Unauthorized,
     Reason::Expired,
+    Reason::PutOut,
 ];
 
 impl Reason {
@@ -154,7 +156,8 @@ impl Reason {
             | Reason::Backlog
             | Reason::Fault
             | Reason::Stalled
-            | Reason::Expired => Deed::Closed,
+            | Reason::Expired
+            | Reason::PutOut => Deed::Closed,
             Reason::Opened => Deed::Came,
             Reason::Left | Reason::Lost | Reason::Stopped | Reason::Gone => Deed::Went,
         }
@@ -191,6 +194,7 @@ impl Reason {
             Reason::Gone => "failed",
             Reason::Unauthorized => "unauthorized",
             Reason::Expired => "expired",
+            Reason::PutOut => "put_out",
         }
     }
 
@@ -227,6 +231,7 @@ impl Reason {
             Reason::Gone => "it went before its answer was sent",
             Reason::Unauthorized => "401, it shows no token that is taken",
             Reason::Expired => "its token has expired, or is taken no more",
+            Reason::PutOut => "a backend put it out",
         }
     }
 

@@ -1,12 +1,11 @@
 -- Where no quoted text begins with the mark, as a plain search finds.
-use Rattle.std.proofs.Common.{◌≡◌, ℕ, ◌==◌, ◌&&◌, not, Bool, true, false, List, [], ◌∷◌, ◌++◌, ◌<◌, length, map, take, drop, slice_index, suc, Option, None, Some, is_some, refl, sym, ap, subst, ◌∙◌, append_assoc, arith}
+use Rattle.std.proofs.Common.{◌≡◌, ℕ, ◌==◌, ◌&&◌, ◌||◌, not, Bool, true, false, List, [], ◌∷◌, ◌++◌, length, map, take, drop, Option, None, Some, refl, sym, ap, subst, ◌∙◌, append_assoc, ◌≤◌, zero, suc, arith}
 use Rattle.std.specs.Bool.{MatchBool}
 use Rattle.std.specs.Cmp.Lexicographic.{pointwise}
-use Rattle.std.specs.List.{list_all}
+use Rattle.std.specs.List.{list_all, list_any}
 use Rattle.std.specs.Str.Iter.{HasSubslice}
 use Rattle.std.specs.Str.Pattern.{FindsText, HasMatch}
 use Rattle.std.proofs.lemmas.Str.Pattern.{contains_text}
-use Rattle.memchr.specs.Find.{IsFirstByte, Nowhere, Passes, is_byte}
 use Rattle.number_texts.specs.Pieces.{Piece, quoted, run, other, open_quote, plain, scan, joined}
 use Rattle.number_texts.specs.Marks.{mark, has_mark, all_named, has_none, has_no_marks, unmarked_text}
 use Rattle.number_texts.specs.Allowed.{all_told}
@@ -61,30 +60,39 @@ unless_found r s found e =
 
 -- ---- a search for a backslash that finds none
 
--- where the mark stands behind a quote, its backslash stands
-stands_at : (x s : List ℕ) → slice_index (x ++ (34 ∷ (92 ∷ s))) (suc (length x)) ≡ 92
-stands_at [] s = refl
-stands_at (b ∷ x) s = stands_at x s
+-- whether a byte is a backslash
+abbrev pub is_backslash : ℕ → Bool
+is_backslash b = b == 92
 
-within : (x s : List ℕ) → suc (length x) < length (x ++ (34 ∷ (92 ∷ s)))
-within [] s = omega arith
-within (b ∷ x) s =
-    let before : suc (length x) < length (x ++ (34 ∷ (92 ∷ s))) = within x s in
-    omega arith
+found_too : (v w : Bool) → w ≡ true → (v || w) ≡ true
+found_too true w e = refl
+found_too false w e = e
 
-no_mark : (s : List ℕ) → Nowhere (Passes (is_byte 92) s) 0 (length s) → HasSubslice s (34 ∷ mark) → ⊥
-no_mark s none h =
-    let behind = 117 ∷ (48 ∷ (48 ∷ (48 ∷ (48 ∷ h.1)))) in
-    let at = suc (length h.0) in
-    let whole : s ≡ h.0 ++ (34 ∷ (92 ∷ behind)) = h.2 in
-    let is : slice_index s at ≡ 92 = rw whole (stands_at h.0 behind) in
-    let lt : at < length s = rw whole (within h.0 behind) in
-    none at (omega arith) lt (rw is refl)
+pub or_apart : (a b c : Bool) → (a || (b || c)) ≡ ((a || b) || c)
+or_apart true b c = refl
+or_apart false b c = refl
 
-pub unless_backslash : (r : Option ℕ) (s : List ℕ) → IsFirstByte (is_byte 92) s r → is_some r ≡ false → has_no_marks s ≡ true
+-- a backslash that stands behind some bytes is found
+found_behind : (x s : List ℕ) → list_any is_backslash (x ++ (34 ∷ (92 ∷ s))) ≡ true
+found_behind [] s = refl
+found_behind (b ∷ x) s = found_too (is_backslash b) (list_any is_backslash (x ++ (34 ∷ (92 ∷ s)))) (found_behind x s)
+
+unless_backslash : (s : List ℕ) → list_any is_backslash s ≡ false → has_no_marks s ≡ true
 unfolding has_no_marks
-unless_backslash None s none e = if_found (all_named has_none (scan plain s)) s refl (no_mark s none)
-unless_backslash (Some k) s first e = absurd (cc)
+unless_backslash s none =
+    if_found (all_named has_none (scan plain s)) s refl (λ h. never (list_any is_backslash s) none (rw h.2 (found_behind h.0 (117 ∷ (48 ∷ (48 ∷ (48 ∷ (48 ∷ h.1))))))))
+
+none_left : (s : List ℕ) (i : ℕ) → length s ≤ i → list_any is_backslash (drop i s) ≡ false
+none_left [] zero le = refl
+none_left [] (suc i) le = refl
+none_left (x ∷ s) zero le = absurd (omega arith)
+none_left (x ∷ s) (suc i) le = none_left s i (omega arith)
+
+-- what was found, and what is left behind the last byte
+pub none_found : (s : List ℕ) (i : ℕ) (found : Bool) → list_any is_backslash s ≡ (found || list_any is_backslash (drop i s)) → length s ≤ i
+    → found ≡ false → has_no_marks s ≡ true
+none_found s i true all le is = absurd (cc)
+none_found s i false all le is = unless_backslash s (all ∙ none_left s i le)
 
 -- ---- texts of which none has a mark
 

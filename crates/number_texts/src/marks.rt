@@ -7,7 +7,6 @@ ghost use Rattle.number_texts.specs.Pieces.{joined};
 
 use crate::numbers::is_marked_number;
 use crate::pieces::{Part, first_part, is_before_colon};
-use memchr::memchr;
 use std::alloc::{AllocError, Global};
 
 /// What a marked text begins with: the character that no other spelling has.
@@ -40,12 +39,17 @@ fn has_mark(text: &str) -> bool
     text.as_bytes().starts_with(MARK.as_bytes())
 }
 
-// Whether a text has a backslash, with which the mark begins: most have none, and no search is faster.
-#[tactic(auto, using(crate::proofs::Found::unless_backslash))]
+// Whether a text has a backslash, with which the mark begins. Most have none, so no byte ends the walk: then many are looked at
+// at once, which is several times as fast as a search.
+#[tactic(auto, using(crate::proofs::Found::none_found, crate::proofs::Found::or_apart))]
 fn has_backslash(text: &str) -> bool
     ensures { result ≡ false → has_no_marks text.now ≡ true }
 {
-    memchr(b'\\', text.as_bytes()).is_some()
+    let mut found = false;
+    for byte in text.as_bytes() {
+        found |= *byte == b'\\';
+    }
+    found
 }
 
 // Whether a quote stands before the mark somewhere.

@@ -1,5 +1,6 @@
 -- What the program says at its end: a line, the stream that it goes to, and the status.
 use Rattle.std.specs.Prelude.{◌≡◌, ℕ, List, ◌∷◌, ◌++◌, Bool, true, false, Option, Some, None, Result, Ok, Err, option_map, string_bytes, codes}
+use Rattle.std.specs.Option.{ForSome}
 use Rattle.std.specs.declared.io.ErrorKind.{ErrorKind}
 use Rattle.std.specs.declared.io.ErrorKind.TheVariants.{OutOfMemory, InvalidData}
 use Rattle.presence_options.specs.declared.fault.UsageFault.{UsageFault}
@@ -10,7 +11,7 @@ use Rattle.presence_stdio.specs.declared.fold_fault.FoldFault.{FoldFault}
 use Rattle.presence_node_main.specs.ServeEnds.{TellsEnd, serve_status}
 use Rattle.presence_node_main.specs.declared.end.ServeEnd.{ServeEnd}
 use Rattle.presence_node_main.specs.declared.end.ServeEnd.TheVariants as ends
-use Rattle.presence_node_main.specs.declared.end.ServeEnd.TheVariants.{Stopped, NotSettled, PortTaken, NoPort, LinkPortTaken, NoLinkPort, MetricsPortTaken, NoMetricsPort, NoThreads}
+use Rattle.presence_node_main.specs.declared.end.ServeEnd.TheVariants.{Stopped, NotSettled, PortTaken, NoPort, LinkPortTaken, NoLinkPort, MetricsPortTaken, NoMetricsPort, ApiPortTaken, NoApiPort, NoThreads}
 use Rattle.presence_stdio.specs.Told.{told_of, status_number}
 use Rattle.presence_stdio.specs.declared.fault.StdioFault.{StdioFault}
 use Rattle.presence_node_main.specs.declared.ending.Ending.{Ending}
@@ -63,6 +64,8 @@ serve_stream (LinkPortTaken port) = Error
 serve_stream (NoLinkPort port) = Error
 serve_stream (MetricsPortTaken port) = Error
 serve_stream (NoMetricsPort port) = Error
+serve_stream (ApiPortTaken port) = Error
+serve_stream (NoApiPort port) = Error
 serve_stream NoThreads = Error
 serve_stream ends.Memory = Error
 
@@ -80,6 +83,7 @@ abbrev pub ShowsAddress : ServeOptions → ServeEnd → Option (List ℕ) → Ty
 ShowsAddress options (NoPort port) line = Shows (string_bytes options.listen) line
 ShowsAddress options (NoLinkPort port) line = Shows (string_bytes options.link_listen) line
 ShowsAddress options (NoMetricsPort port) line = Shows (string_bytes options.link_listen) line
+ShowsAddress options (NoApiPort port) line = ForSome options.api (λ a. Shows (string_bytes a.listen) line)
 ShowsAddress options end line = Unit {0}
 
 -- why the words can't be read or help can't be written; of want of memory nothing is said

@@ -6,3 +6,4 @@ pub mod Place
 pub mod ClientSettings
 pub mod KeyFiles
 pub mod Laws
+pub mod Orders

@@ -1,5 +1,6 @@
 -- Where a server listens, and how standard error is told of it.
 use Rattle.std.specs.Prelude.{◌≡◌, ◌⊎◌, ℕ, Bool, false, true, cond, ◌==◌, List, [], ◌∷◌, ◌++◌, Option, None, Some, codes, decimal, string_bytes}
+use Rattle.presence_options.specs.declared.options.ApiOptions.{ApiOptions}
 use Rattle.presence_options.specs.declared.options.ServeOptions.{ServeOptions}
 
 -- what stands between the brackets of an address, if it has them
@@ -38,8 +39,14 @@ metrics_at address (Some port) =
 abbrev pub metrics_text : ServeOptions → List ℕ
 metrics_text options = metrics_at (string_bytes options.link_listen) options.reports.metrics_port
 
+-- and of that of backends
+abbrev pub api_text : Option ApiOptions → List ℕ
+api_text None = []
+api_text (Some api) =
+    codes ", for backends at http://" ++ (host_text (string_bytes api.listen) ++ (codes ":" ++ (decimal api.port ++ codes "/api/")))
+
 -- all of it
 abbrev pub place_text : ServeOptions → List ℕ
 place_text options =
     codes "listening at http://" ++ (host_text (string_bytes options.listen)
-    ++ (codes ":" ++ (decimal options.port ++ (codes "/" ++ (links_text options ++ metrics_text options)))))
+    ++ (codes ":" ++ (decimal options.port ++ (codes "/" ++ (links_text options ++ (metrics_text options ++ api_text options.api))))))

@@ -7,7 +7,7 @@ use Rattle.shard_pool_settled.specs.Settled.{Agree, CountsDiffer, are_told}
 use Rattle.shard_pool_settled.specs.declared.fault.SettleFault.{SettleFault}
 use Rattle.shard_pool_settled.specs.declared.fault.SettleFault.TheVariants as faults
 use Rattle.presence_node_main.specs.declared.end.ServeEnd.{ServeEnd}
-use Rattle.presence_node_main.specs.declared.end.ServeEnd.TheVariants.{Stopped, NotSettled, PortTaken, NoPort, LinkPortTaken, NoLinkPort, MetricsPortTaken, NoMetricsPort, NoThreads, Memory}
+use Rattle.presence_node_main.specs.declared.end.ServeEnd.TheVariants.{Stopped, NotSettled, PortTaken, NoPort, LinkPortTaken, NoLinkPort, MetricsPortTaken, NoMetricsPort, ApiPortTaken, NoApiPort, NoThreads, Memory}
 
 -- the number of a refusal to settle
 abbrev pub settle_number : SettleFault → ℕ
@@ -25,6 +25,8 @@ serve_status (LinkPortTaken port) = 1
 serve_status (NoLinkPort port) = 1
 serve_status (MetricsPortTaken port) = 1
 serve_status (NoMetricsPort port) = 1
+serve_status (ApiPortTaken port) = 1
+serve_status (NoApiPort port) = 1
 serve_status NoThreads = 1
 serve_status Memory = 2
 
@@ -46,6 +48,8 @@ TellsEnd (LinkPortTaken port) line = Names port line
 TellsEnd (NoLinkPort port) line = Names port line
 TellsEnd (MetricsPortTaken port) line = Names port line
 TellsEnd (NoMetricsPort port) line = Names port line
+TellsEnd (ApiPortTaken port) line = Names port line
+TellsEnd (NoApiPort port) line = Names port line
 TellsEnd NoThreads line = HasWords line
 TellsEnd Memory line = line ≡ None
 
@@ -82,5 +86,7 @@ Settles node shards count hs (LinkPortTaken port) = ⊥
 Settles node shards count hs (NoLinkPort port) = ⊥
 Settles node shards count hs (MetricsPortTaken port) = ⊥
 Settles node shards count hs (NoMetricsPort port) = ⊥
+Settles node shards count hs (ApiPortTaken port) = ⊥
+Settles node shards count hs (NoApiPort port) = ⊥
 Settles node shards count hs NoThreads = ⊥
 Settles node shards count hs Memory = Unit {0}

@@ -24,6 +24,10 @@ pub enum ServeEnd {
     MetricsPortTaken(u16),
     /// The port of metrics can't be had for another reason.
     NoMetricsPort(u16),
+    /// The port of backends is in use.
+    ApiPortTaken(u16),
+    /// The port of backends can't be had for another reason.
+    NoApiPort(u16),
     /// The system gives no thread or nothing to wait on.
     NoThreads,
     Memory,
@@ -54,6 +58,8 @@ pub fn serve_status_of(end: ServeEnd) -> u8
         | ServeEnd::NoLinkPort(_)
         | ServeEnd::MetricsPortTaken(_)
         | ServeEnd::NoMetricsPort(_)
+        | ServeEnd::ApiPortTaken(_)
+        | ServeEnd::NoApiPort(_)
         | ServeEnd::NoThreads => 1,
         ServeEnd::Memory => 2,
     }
@@ -121,6 +127,24 @@ fn no_metrics_port(alloc: Global, port: u16) -> Result<String, AllocError>
     Ok(line)
 }
 
+// What is told of a port of backends that is in use.
+fn api_port_taken(alloc: Global, port: u16) -> Result<String, AllocError>
+    ensures { IfOk result (λ s. Names port (Some (string_bytes s))) }
+{
+    let line = format!(in alloc; "presence_node: --api-port {port}: this port is in use")?;
+    Ok(line)
+}
+
+// What is told of a port of backends that can't be had.
+fn no_api_port(alloc: Global, port: u16) -> Result<String, AllocError>
+    ensures { IfOk result (λ s. Names port (Some (string_bytes s))) }
+{
+    let line = format!(in alloc;
+        "presence_node: --api-port {port}: the system doesn't give this port at --api-listen"
+    )?;
+    Ok(line)
+}
+
 // The line that tells how it ended, if one does.
 fn serve_line(alloc: Global, end: ServeEnd) -> Result<Option<String>, AllocError>
     ensures { IfOk result (λ line. TellsEnd end (option_map string_bytes line)) }
@@ -134,6 +158,8 @@ fn serve_line(alloc: Global, end: ServeEnd) -> Result<Option<String>, AllocError
         ServeEnd::NoLinkPort(port) => no_link_port(alloc, port)?,
         ServeEnd::MetricsPortTaken(port) => metrics_port_taken(alloc, port)?,
         ServeEnd::NoMetricsPort(port) => no_metrics_port(alloc, port)?,
+        ServeEnd::ApiPortTaken(port) => api_port_taken(alloc, port)?,
+        ServeEnd::NoApiPort(port) => no_api_port(alloc, port)?,
         ServeEnd::NoThreads => {
             String::from_str(
                 alloc,

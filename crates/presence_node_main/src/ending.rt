@@ -1,5 +1,6 @@
 //! What is said at the end.
 ghost use Rattle.std.specs.Prelude.{◌≡◌, ◌++◌, ◌∷◌, IfOk, Some, None, codes, option_map, string_bytes};
+ghost use Rattle.std.specs.Option.{ForSome};
 ghost use Rattle.presence_node_main.specs.ServeEnds.{Names, TellsEnd};
 ghost use Rattle.presence_node_main.specs.Ending.{EndsFold, EndsServe, EndsStdio, EndsUsage, IsSilent, Prints, Says, Shows, ShowsAddress, serve_stream as serve_stream_in, stopped_status, stopped_words};
 
@@ -119,8 +120,18 @@ fn no_port_at(alloc: Global, option: &str, address: &str, port: u16) -> Result<S
     Ok(line)
 }
 
+// The address of the port of backends, if they are answered.
+fn api_address(options: &ServeOptions) -> &str
+    ensures { ForSome options.now.api (λ api. result.now ≡ string_bytes api.listen) }
+{
+    match &options.api {
+        Some(api) => api.listen.as_str(),
+        None => "",
+    }
+}
+
 // What is told of the end of a run of these options.
-#[tactic(auto, using(crate::proofs::Places::other_end))]
+#[tactic(auto, using(crate::proofs::Places::other_end, crate::proofs::Places::shows_api))]
 fn serve_line(
     alloc: Global,
     end: ServeEnd,
@@ -130,10 +141,12 @@ fn serve_line(
     ensures address { IfOk result (λ line. ShowsAddress options.now end (option_map string_bytes line)) }
 {
     let links = options.link_listen.as_str();
+    let api = api_address(options);
     let line = match end {
         ServeEnd::NoPort(port) => no_port_at(alloc, "listen", options.listen.as_str(), port)?,
         ServeEnd::NoLinkPort(port) => no_port_at(alloc, "link-listen", links, port)?,
         ServeEnd::NoMetricsPort(port) => no_port_at(alloc, "link-listen", links, port)?,
+        ServeEnd::NoApiPort(port) => no_port_at(alloc, "api-listen", api, port)?,
         _ => {
             let (line, _) = end_of(alloc, &end)?;
             return Ok(line);

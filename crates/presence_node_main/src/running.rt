@@ -98,7 +98,11 @@ where
         Err(Ok(words)) => return Ok(keys_ending(alloc, words.as_str())?),
         Err(Err(_)) => return Ok(silent(2)),
     };
-    let end = serve(rt, alloc, hooks, options, &secrets);
+    let end = match serve(rt, alloc, hooks, options, &secrets) {
+        Ok(end) => end,
+        Err(Ok(words)) => return Ok(keys_ending(alloc, words.as_str())?),
+        Err(Err(_)) => return Ok(silent(2)),
+    };
     match serve_ending(alloc, end, options) {
         Ok(ending) => Ok(ending),
         Err(_) => Ok(silent(serve_status_of(end))),

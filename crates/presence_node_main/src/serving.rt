@@ -9,6 +9,7 @@ mod pieces;
 mod place;
 mod running;
 mod secrets;
+mod state_file;
 mod stopping;
 
 pub(crate) use key_files::KeyFile;

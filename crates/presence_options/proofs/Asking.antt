@@ -10,7 +10,7 @@ use Rattle.clap.proofs.OnLiterals.{clap_on_literals}
 use Rattle.presence_options.specs.CommandLine.{program}
 use Rattle.presence_options.specs.Given.{AskFor, Calls, Chooses, ChoosesNone, HasCause, IsFor, IsHelpFor, IsNoHelp, Refused, RefusedFor, Refuses, ServeRefuses, TokenRefuses}
 use Rattle.presence_options.specs.declared.fault.UsageCause.{UsageCause}
-use Rattle.presence_options.specs.declared.fault.UsageCause.TheVariants.{Words, Name, Incarnation, Route, Port, LinkPort, Shards, Workers, LinkVersion, Peer, Origin, PerAddress, HandshakesPerSecond, PeerName, Proxy, LinkFrom, MemoryLimit, TopicRows, TopicBytes, Grace, Log, LogFormat, MetricsPort, Event, KeyFile, Lifetime}
+use Rattle.presence_options.specs.declared.fault.UsageCause.TheVariants.{Words, Name, Incarnation, Route, Port, LinkPort, Shards, Workers, LinkVersion, Peer, Origin, PerAddress, HandshakesPerSecond, PeerName, Proxy, LinkFrom, MemoryLimit, TopicRows, TopicBytes, Grace, Log, LogFormat, MetricsPort, Event, ApiPort, ApiKeys, Seats, LinkShouts, ShoutsAcross, Sought, KeyFile, Lifetime}
 use Rattle.presence_options.specs.declared.fault.UsageFault.{UsageFault}
 use Rattle.presence_options.specs.declared.fault.UsageFault.TheVariants.{Usage, Memory}
 use Rattle.presence_options.specs.declared.options.Options.{Options}
@@ -138,6 +138,12 @@ chosen_refused c words m name rows (Err (Usage Log text)) is h met none = why_re
 chosen_refused c words m name rows (Err (Usage LogFormat text)) is h met none = why_refused c words m name rows LogFormat is h met none
 chosen_refused c words m name rows (Err (Usage MetricsPort text)) is h met none = why_refused c words m name rows MetricsPort is h met none
 chosen_refused c words m name rows (Err (Usage Event text)) is h met none = why_refused c words m name rows Event is h met none
+chosen_refused c words m name rows (Err (Usage ApiPort text)) is h met none = why_refused c words m name rows ApiPort is h met none
+chosen_refused c words m name rows (Err (Usage ApiKeys text)) is h met none = why_refused c words m name rows ApiKeys is h met none
+chosen_refused c words m name rows (Err (Usage Seats text)) is h met none = why_refused c words m name rows Seats is h met none
+chosen_refused c words m name rows (Err (Usage LinkShouts text)) is h met none = why_refused c words m name rows LinkShouts is h met none
+chosen_refused c words m name rows (Err (Usage ShoutsAcross text)) is h met none = why_refused c words m name rows ShoutsAcross is h met none
+chosen_refused c words m name rows (Err (Usage Sought text)) is h met none = why_refused c words m name rows Sought is h met none
 chosen_refused c words m name rows (Err (Usage KeyFile text)) is h met none = why_refused c words m name rows KeyFile is h met none
 chosen_refused c words m name rows (Err (Usage Lifetime text)) is h met none = why_refused c words m name rows Lifetime is h met none
 

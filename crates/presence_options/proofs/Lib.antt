@@ -7,3 +7,4 @@ pub mod Origins
 pub mod Serving
 pub mod Written
 pub mod Named
+pub mod Reaching

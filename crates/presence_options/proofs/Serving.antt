@@ -1,10 +1,12 @@
 -- Why a server's options are refused, from what was looked at before.
-use Rattle.std.proofs.Common.{◌≡◌, ◌⊎◌, inl, inr, ℕ, List, IsTrue, codes, false, subst, sym}
+use Rattle.std.proofs.Common.{◌≡◌, ◌⊎◌, ◌≤◌, ◌<◌, inl, inr, ℕ, List, Bool, IsTrue, codes, false, is_some, ap₂, subst}
 use Rattle.clap.specs.Words.{Row}
-use Rattle.presence_options.specs.Given.{AllArePeers, AreAllNames, AreFewOrigins, AreFewPatterns, AreHandshakes, AreLinkFrom, AreOtherPeers, AreProxies, IsFrugal, IsTold, IsUnnamed, IsUntold, IsWasteful, ArePeers, ArePorts, AreShards, AreWorkers, ChoosesNone, IsEdgeWrong, IsFor, IsLinkVersion, IsNamed, IsNode, IsPerAddress, IsServedWrong, IsTokenWrong, name_given, origins_given, patterns_given, peers_given}
-use Rattle.presence_options.specs.declared.fault.UsageCause.TheVariants.{Words, Name, Incarnation, Route, Port, LinkPort, Shards, Workers, LinkVersion, Peer, Origin, PerAddress, HandshakesPerSecond, PeerName, Proxy, LinkFrom, MemoryLimit, TopicRows, TopicBytes, Grace, Log, LogFormat, MetricsPort, Event, KeyFile, Lifetime}
+use Rattle.presence_options.specs.Given.{AllArePeers, AreAllNames, AreFewOrigins, AreHandshakes, AreLinkFrom, AreOtherPeers, AreProxies, IsFrugal, IsTold, IsUnnamed, IsUnreached, IsUntold, IsWasteful, ArePeers, ArePorts, AreShards, AreWorkers, ChoosesNone, IsEdgeWrong, IsFor, IsLinkVersion, IsNamed, IsNode, IsPerAddress, IsServedWrong, IsTokenWrong, name_given, origins_given, patterns_given, peers_given, api_port_given, number_in, seats_given, workers_given}
+use Rattle.presence_options.specs.Seats.{seats_in}
+use Rattle.presence_options.specs.declared.fault.UsageCause.TheVariants.{Words, Name, Incarnation, Route, Port, LinkPort, Shards, Workers, LinkVersion, Peer, Origin, PerAddress, HandshakesPerSecond, PeerName, Proxy, LinkFrom, MemoryLimit, TopicRows, TopicBytes, Grace, Log, LogFormat, MetricsPort, Event, ApiPort, ApiKeys, Seats, LinkShouts, ShoutsAcross, Sought, KeyFile, Lifetime}
 use Rattle.presence_options.specs.Limits.{AreRoutes, is_peer_name, numbered}
 use Rattle.presence_options.specs.declared.options.PeerOption.{PeerOption}
+use Rattle.presence_options.specs.declared.options.TheConstants.{MAX_WORKERS}
 use Rattle.presence_options.proofs.Patterns.{few_patterns}
 use Rattle.presence_options.specs.declared.fault.UsageFault.{UsageFault}
 use Rattle.presence_options.specs.declared.fault.UsageFault.TheVariants.{Usage, Memory}
@@ -53,40 +55,47 @@ own_peer rows name peers (Usage cause text) node is are twice =
 own_peer rows name peers Memory node is are twice = tt
 
 -- what stands beside the node itself is wrong for a cause of its own
-none_of : {A B C : Type 0} → (⊥ ⊎ ((A × ⊥) ⊎ (B × C × ⊥))) → ⊥
+none_of : {A B C : Type 0} → (⊥ ⊎ ((A × ⊥) ⊎ ((A × B × ⊥) ⊎ (A × B × C × ⊥)))) → ⊥
 none_of (inl h) = h
 none_of (inr (inl h)) = h.1
-none_of (inr (inr h)) = h.2
+none_of (inr (inr (inl h))) = h.2
+none_of (inr (inr (inr h))) = h.3
 
-pub edge_wrong : (rows : List Row) (fault : UsageFault) → IsNode rows → AreOtherPeers rows → IsEdgeWrong rows fault
-    → IsServedWrong rows fault
-edge_wrong rows (Usage Words text) node others wrong = absurd (none_of wrong.2)
-edge_wrong rows (Usage Name text) node others wrong = absurd (none_of wrong.2)
-edge_wrong rows (Usage Incarnation text) node others wrong = absurd (none_of wrong.2)
-edge_wrong rows (Usage Route text) node others wrong = absurd (none_of wrong.2)
-edge_wrong rows (Usage Port text) node others wrong = absurd (none_of wrong.2)
-edge_wrong rows (Usage LinkPort text) node others wrong = absurd (none_of wrong.2)
-edge_wrong rows (Usage Shards text) node others wrong = absurd (none_of wrong.2)
-edge_wrong rows (Usage Workers text) node others wrong = absurd (none_of wrong.2)
-edge_wrong rows (Usage LinkVersion text) node others wrong = absurd (none_of wrong.2)
-edge_wrong rows (Usage Peer text) node others wrong = absurd (none_of wrong.2)
-edge_wrong rows (Usage Origin text) node others wrong = absurd (none_of wrong.2)
-edge_wrong rows (Usage PerAddress text) node others wrong = absurd (none_of wrong.2)
-edge_wrong rows (Usage HandshakesPerSecond text) node others wrong = absurd (none_of wrong.2)
-edge_wrong rows (Usage PeerName text) node others wrong = absurd (none_of wrong.2)
-edge_wrong rows (Usage Proxy text) node others wrong = (node, others, wrong)
-edge_wrong rows (Usage LinkFrom text) node others wrong = (node, others, wrong)
-edge_wrong rows (Usage MemoryLimit text) node others wrong = (node, others, wrong)
-edge_wrong rows (Usage TopicRows text) node others wrong = (node, others, wrong)
-edge_wrong rows (Usage TopicBytes text) node others wrong = (node, others, wrong)
-edge_wrong rows (Usage Grace text) node others wrong = (node, others, wrong)
-edge_wrong rows (Usage Log text) node others wrong = (node, others, wrong)
-edge_wrong rows (Usage LogFormat text) node others wrong = (node, others, wrong)
-edge_wrong rows (Usage MetricsPort text) node others wrong = (node, others, wrong)
-edge_wrong rows (Usage Event text) node others wrong = (node, others, wrong)
-edge_wrong rows (Usage KeyFile text) node others wrong = (node, others, wrong)
-edge_wrong rows (Usage Lifetime text) node others wrong = (node, others, wrong)
-edge_wrong rows Memory node others wrong = tt
+pub edge_wrong : (rows : List Row) (fault : UsageFault) → IsNode rows → AreOtherPeers rows → seats_given rows ≤ MAX_WORKERS
+    → IsEdgeWrong rows fault → IsServedWrong rows fault
+edge_wrong rows (Usage Words text) node others seats wrong = absurd (none_of wrong.2)
+edge_wrong rows (Usage Name text) node others seats wrong = absurd (none_of wrong.2)
+edge_wrong rows (Usage Incarnation text) node others seats wrong = absurd (none_of wrong.2)
+edge_wrong rows (Usage Route text) node others seats wrong = absurd (none_of wrong.2)
+edge_wrong rows (Usage Port text) node others seats wrong = absurd (none_of wrong.2)
+edge_wrong rows (Usage LinkPort text) node others seats wrong = absurd (none_of wrong.2)
+edge_wrong rows (Usage Shards text) node others seats wrong = absurd (none_of wrong.2)
+edge_wrong rows (Usage Workers text) node others seats wrong = absurd (none_of wrong.2)
+edge_wrong rows (Usage LinkVersion text) node others seats wrong = absurd (none_of wrong.2)
+edge_wrong rows (Usage Peer text) node others seats wrong = absurd (none_of wrong.2)
+edge_wrong rows (Usage Origin text) node others seats wrong = absurd (none_of wrong.2)
+edge_wrong rows (Usage PerAddress text) node others seats wrong = absurd (none_of wrong.2)
+edge_wrong rows (Usage HandshakesPerSecond text) node others seats wrong = absurd (none_of wrong.2)
+edge_wrong rows (Usage PeerName text) node others seats wrong = absurd (none_of wrong.2)
+edge_wrong rows (Usage Proxy text) node others seats wrong = (node, others, seats, wrong)
+edge_wrong rows (Usage LinkFrom text) node others seats wrong = (node, others, seats, wrong)
+edge_wrong rows (Usage MemoryLimit text) node others seats wrong = (node, others, seats, wrong)
+edge_wrong rows (Usage TopicRows text) node others seats wrong = (node, others, seats, wrong)
+edge_wrong rows (Usage TopicBytes text) node others seats wrong = (node, others, seats, wrong)
+edge_wrong rows (Usage Grace text) node others seats wrong = (node, others, seats, wrong)
+edge_wrong rows (Usage Log text) node others seats wrong = (node, others, seats, wrong)
+edge_wrong rows (Usage LogFormat text) node others seats wrong = (node, others, seats, wrong)
+edge_wrong rows (Usage MetricsPort text) node others seats wrong = (node, others, seats, wrong)
+edge_wrong rows (Usage Event text) node others seats wrong = (node, others, seats, wrong)
+edge_wrong rows (Usage ApiPort text) node others seats wrong = (node, others, seats, wrong)
+edge_wrong rows (Usage ApiKeys text) node others seats wrong = (node, others, seats, wrong)
+edge_wrong rows (Usage Seats text) node others seats wrong = absurd (none_of wrong.2)
+edge_wrong rows (Usage LinkShouts text) node others seats wrong = (node, others, seats, wrong)
+edge_wrong rows (Usage ShoutsAcross text) node others seats wrong = (node, others, seats, wrong)
+edge_wrong rows (Usage Sought text) node others seats wrong = (node, others, seats, wrong)
+edge_wrong rows (Usage KeyFile text) node others seats wrong = (node, others, seats, wrong)
+edge_wrong rows (Usage Lifetime text) node others seats wrong = (node, others, seats, wrong)
+edge_wrong rows Memory node others seats wrong = tt
 
 -- the same, from what was looked at of the node itself by parts, and of peers that are these
 pub named_wrong : (rows : List Row) (name : List ℕ) (routes : List (List ℕ × ℕ)) (read peers : List PeerOption) (fault : UsageFault)
@@ -99,13 +108,44 @@ named_wrong rows name routes read peers fault same twice is are routed within na
     (subst (λ ps. IsFor PeerName (IsTrue (is_peer_name name ps)) fault) same twice)
 
 pub edge_refused : (rows : List Row) (name : List ℕ) (routes : List (List ℕ × ℕ)) (read peers : List PeerOption) (fault : UsageFault)
-    → read ≡ peers → IsEdgeWrong rows fault → is_peer_name name read ≡ false → name ≡ name_given rows → ArePeers (peers_given rows) peers
-    → routes ≡ numbered 0 (patterns_given rows) → AreRoutes routes → IsNamed rows → ArePorts rows → AreShards rows
-    → AreWorkers rows → IsLinkVersion rows → AllArePeers (peers_given rows) → AreFewOrigins (origins_given rows)
+    → read ≡ peers → IsEdgeWrong rows fault → is_peer_name name read ≡ false → seats_given rows ≤ MAX_WORKERS → name ≡ name_given rows
+    → ArePeers (peers_given rows) peers → routes ≡ numbered 0 (patterns_given rows) → AreRoutes routes → IsNamed rows → ArePorts rows
+    → AreShards rows → AreWorkers rows → IsLinkVersion rows → AllArePeers (peers_given rows) → AreFewOrigins (origins_given rows)
     → IsPerAddress rows → AreHandshakes rows → IsServedWrong rows fault
-edge_refused rows name routes read peers fault same wrong others is are routed within named ports shards workers version all origins clients handshakes =
+edge_refused rows name routes read peers fault same wrong others seats is are routed within named ports shards workers version all origins clients handshakes =
     edge_wrong rows fault (node_of rows routes named ports shards workers version all origins clients handshakes routed within)
-    (others_of rows name peers is are (subst (λ ps. is_peer_name name ps ≡ false) same others)) wrong
+    (others_of rows name peers is are (subst (λ ps. is_peer_name name ps ≡ false) same others)) seats wrong
+
+-- the seats that are looked at are those that are given
+seats_are : (rows : List Row) (workers : ℕ) (answered : Bool) → workers ≡ number_in (workers_given rows)
+    → answered ≡ is_some (api_port_given rows) → seats_in workers answered ≡ seats_given rows
+seats_are rows workers answered workers_are is = ap₂ seats_in workers_are is
+
+pub few_given : (rows : List Row) (workers : ℕ) (answered : Bool) → workers ≡ number_in (workers_given rows)
+    → answered ≡ is_some (api_port_given rows) → seats_in workers answered ≤ MAX_WORKERS → seats_given rows ≤ MAX_WORKERS
+few_given rows workers answered workers_are is few = subst (λ n. n ≤ MAX_WORKERS) (seats_are rows workers answered workers_are is) few
+
+pub many_given : (rows : List Row) (workers : ℕ) (answered : Bool) (fault : UsageFault) → workers ≡ number_in (workers_given rows)
+    → answered ≡ is_some (api_port_given rows) → IsFor Seats (MAX_WORKERS < seats_in workers answered) fault
+    → IsFor Seats (MAX_WORKERS < seats_given rows) fault
+many_given rows workers answered (Usage cause text) workers_are is many =
+    (many.0, subst (λ n. MAX_WORKERS < n) (seats_are rows workers answered workers_are is) many.1)
+many_given rows workers answered Memory workers_are is many = tt
+
+-- and where there are more seats than the pool has
+unseated : (rows : List Row) (fault : UsageFault) → IsNode rows → AreOtherPeers rows → IsFor Seats (MAX_WORKERS < seats_given rows) fault
+    → IsServedWrong rows fault
+unseated rows (Usage cause text) node others crowded = rw crowded.0 (node, others, crowded.1)
+unseated rows Memory node others crowded = tt
+
+pub seats_refused : (rows : List Row) (name : List ℕ) (routes : List (List ℕ × ℕ)) (read peers : List PeerOption) (fault : UsageFault)
+    → read ≡ peers → IsFor Seats (MAX_WORKERS < seats_given rows) fault → is_peer_name name read ≡ false → name ≡ name_given rows
+    → ArePeers (peers_given rows) peers → routes ≡ numbered 0 (patterns_given rows) → AreRoutes routes → IsNamed rows → ArePorts rows
+    → AreShards rows → AreWorkers rows → IsLinkVersion rows → AllArePeers (peers_given rows) → AreFewOrigins (origins_given rows)
+    → IsPerAddress rows → AreHandshakes rows → IsServedWrong rows fault
+seats_refused rows name routes read peers fault same crowded others is are routed within named ports shards workers version all origins clients handshakes =
+    unseated rows fault (node_of rows routes named ports shards workers version all origins clients handshakes routed within)
+    (others_of rows name peers is are (subst (λ ps. is_peer_name name ps ≡ false) same others)) crowded
 
 -- what is told, or taken, wrongly is wrong of what stands beside the node itself
 pub untold_edge : (rows : List Row) (fault : UsageFault) → AreProxies rows → AreLinkFrom rows → IsFrugal rows → IsUntold rows fault
@@ -134,6 +174,12 @@ untold_edge rows (Usage Log text) proxies links frugal wrong = (proxies, links, 
 untold_edge rows (Usage LogFormat text) proxies links frugal wrong = (proxies, links, inr (inl (frugal, wrong)))
 untold_edge rows (Usage MetricsPort text) proxies links frugal wrong = (proxies, links, inr (inl (frugal, wrong)))
 untold_edge rows (Usage Event text) proxies links frugal wrong = (proxies, links, inr (inl (frugal, wrong)))
+untold_edge rows (Usage ApiPort text) proxies links frugal wrong = (proxies, links, inr (inl (frugal, wrong)))
+untold_edge rows (Usage ApiKeys text) proxies links frugal wrong = (proxies, links, inr (inl (frugal, wrong)))
+untold_edge rows (Usage Seats text) proxies links frugal wrong = (proxies, links, inr (inl (frugal, wrong)))
+untold_edge rows (Usage LinkShouts text) proxies links frugal wrong = (proxies, links, inr (inl (frugal, wrong)))
+untold_edge rows (Usage ShoutsAcross text) proxies links frugal wrong = (proxies, links, inr (inl (frugal, wrong)))
+untold_edge rows (Usage Sought text) proxies links frugal wrong = (proxies, links, inr (inl (frugal, wrong)))
 untold_edge rows (Usage KeyFile text) proxies links frugal wrong = (proxies, links, inr (inl (frugal, wrong)))
 untold_edge rows (Usage Lifetime text) proxies links frugal wrong = (proxies, links, inr (inl (frugal, wrong)))
 untold_edge rows Memory proxies links frugal wrong = tt
@@ -163,6 +209,12 @@ wasteful_edge rows (Usage Log text) proxies links wrong = (proxies, links, inl w
 wasteful_edge rows (Usage LogFormat text) proxies links wrong = (proxies, links, inl wrong)
 wasteful_edge rows (Usage MetricsPort text) proxies links wrong = (proxies, links, inl wrong)
 wasteful_edge rows (Usage Event text) proxies links wrong = (proxies, links, inl wrong)
+wasteful_edge rows (Usage ApiPort text) proxies links wrong = (proxies, links, inl wrong)
+wasteful_edge rows (Usage ApiKeys text) proxies links wrong = (proxies, links, inl wrong)
+wasteful_edge rows (Usage Seats text) proxies links wrong = (proxies, links, inl wrong)
+wasteful_edge rows (Usage LinkShouts text) proxies links wrong = (proxies, links, inl wrong)
+wasteful_edge rows (Usage ShoutsAcross text) proxies links wrong = (proxies, links, inl wrong)
+wasteful_edge rows (Usage Sought text) proxies links wrong = (proxies, links, inl wrong)
 wasteful_edge rows (Usage KeyFile text) proxies links wrong = (proxies, links, inl wrong)
 wasteful_edge rows (Usage Lifetime text) proxies links wrong = (proxies, links, inl wrong)
 wasteful_edge rows Memory proxies links wrong = tt
@@ -193,7 +245,13 @@ unnamed rows (Usage Grace text) proxies links frugal told wrong = absurd wrong
 unnamed rows (Usage Log text) proxies links frugal told wrong = absurd wrong
 unnamed rows (Usage LogFormat text) proxies links frugal told wrong = absurd wrong
 unnamed rows (Usage MetricsPort text) proxies links frugal told wrong = absurd wrong
-unnamed rows (Usage Event text) proxies links frugal told wrong = (proxies, links, inr (inr (frugal, told, wrong)))
+unnamed rows (Usage Event text) proxies links frugal told wrong = (proxies, links, inr (inr (inl (frugal, told, wrong))))
+unnamed rows (Usage ApiPort text) proxies links frugal told wrong = absurd wrong
+unnamed rows (Usage ApiKeys text) proxies links frugal told wrong = absurd wrong
+unnamed rows (Usage Seats text) proxies links frugal told wrong = absurd wrong
+unnamed rows (Usage LinkShouts text) proxies links frugal told wrong = absurd wrong
+unnamed rows (Usage ShoutsAcross text) proxies links frugal told wrong = absurd wrong
+unnamed rows (Usage Sought text) proxies links frugal told wrong = absurd wrong
 unnamed rows (Usage KeyFile text) proxies links frugal told wrong = absurd wrong
 unnamed rows (Usage Lifetime text) proxies links frugal told wrong = absurd wrong
 unnamed rows Memory proxies links frugal told wrong = tt
@@ -205,6 +263,43 @@ unnamed_by rows Memory wrong = tt
 pub unnamed_edge : (rows : List Row) (fault : UsageFault) → AreProxies rows → AreLinkFrom rows → IsFrugal rows → IsTold rows
     → IsFor Event (AreAllNames rows → ⊥) fault → IsEdgeWrong rows fault
 unnamed_edge rows fault proxies links frugal told wrong = unnamed rows fault proxies links frugal told (unnamed_by rows fault wrong)
+
+-- and so is what isn't answered or heard
+pub unreached_edge : (rows : List Row) (fault : UsageFault) → AreProxies rows → AreLinkFrom rows → IsFrugal rows → IsTold rows
+    → AreAllNames rows → IsUnreached rows fault → IsEdgeWrong rows fault
+unreached_edge rows (Usage Words text) proxies links frugal told names wrong = absurd wrong
+unreached_edge rows (Usage Name text) proxies links frugal told names wrong = absurd wrong
+unreached_edge rows (Usage Incarnation text) proxies links frugal told names wrong = absurd wrong
+unreached_edge rows (Usage Route text) proxies links frugal told names wrong = absurd wrong
+unreached_edge rows (Usage Port text) proxies links frugal told names wrong = absurd wrong
+unreached_edge rows (Usage LinkPort text) proxies links frugal told names wrong = absurd wrong
+unreached_edge rows (Usage Shards text) proxies links frugal told names wrong = absurd wrong
+unreached_edge rows (Usage Workers text) proxies links frugal told names wrong = absurd wrong
+unreached_edge rows (Usage LinkVersion text) proxies links frugal told names wrong = absurd wrong
+unreached_edge rows (Usage Peer text) proxies links frugal told names wrong = absurd wrong
+unreached_edge rows (Usage Origin text) proxies links frugal told names wrong = absurd wrong
+unreached_edge rows (Usage PerAddress text) proxies links frugal told names wrong = absurd wrong
+unreached_edge rows (Usage HandshakesPerSecond text) proxies links frugal told names wrong = absurd wrong
+unreached_edge rows (Usage PeerName text) proxies links frugal told names wrong = absurd wrong
+unreached_edge rows (Usage Proxy text) proxies links frugal told names wrong = absurd wrong
+unreached_edge rows (Usage LinkFrom text) proxies links frugal told names wrong = absurd wrong
+unreached_edge rows (Usage MemoryLimit text) proxies links frugal told names wrong = absurd wrong
+unreached_edge rows (Usage TopicRows text) proxies links frugal told names wrong = absurd wrong
+unreached_edge rows (Usage TopicBytes text) proxies links frugal told names wrong = absurd wrong
+unreached_edge rows (Usage Grace text) proxies links frugal told names wrong = absurd wrong
+unreached_edge rows (Usage Log text) proxies links frugal told names wrong = absurd wrong
+unreached_edge rows (Usage LogFormat text) proxies links frugal told names wrong = absurd wrong
+unreached_edge rows (Usage MetricsPort text) proxies links frugal told names wrong = absurd wrong
+unreached_edge rows (Usage Event text) proxies links frugal told names wrong = absurd wrong
+unreached_edge rows (Usage ApiPort text) proxies links frugal told names wrong = (proxies, links, inr (inr (inr (frugal, told, names, wrong))))
+unreached_edge rows (Usage ApiKeys text) proxies links frugal told names wrong = (proxies, links, inr (inr (inr (frugal, told, names, wrong))))
+unreached_edge rows (Usage Seats text) proxies links frugal told names wrong = absurd wrong
+unreached_edge rows (Usage LinkShouts text) proxies links frugal told names wrong = (proxies, links, inr (inr (inr (frugal, told, names, wrong))))
+unreached_edge rows (Usage ShoutsAcross text) proxies links frugal told names wrong = (proxies, links, inr (inr (inr (frugal, told, names, wrong))))
+unreached_edge rows (Usage Sought text) proxies links frugal told names wrong = (proxies, links, inr (inr (inr (frugal, told, names, wrong))))
+unreached_edge rows (Usage KeyFile text) proxies links frugal told names wrong = absurd wrong
+unreached_edge rows (Usage Lifetime text) proxies links frugal told names wrong = absurd wrong
+unreached_edge rows Memory proxies links frugal told names wrong = tt
 
 -- ---- the command
 
@@ -234,6 +329,12 @@ serve_chosen name rows (Usage Log text) is wrong = inr (inl (is, wrong))
 serve_chosen name rows (Usage LogFormat text) is wrong = inr (inl (is, wrong))
 serve_chosen name rows (Usage MetricsPort text) is wrong = inr (inl (is, wrong))
 serve_chosen name rows (Usage Event text) is wrong = inr (inl (is, wrong))
+serve_chosen name rows (Usage ApiPort text) is wrong = inr (inl (is, wrong))
+serve_chosen name rows (Usage ApiKeys text) is wrong = inr (inl (is, wrong))
+serve_chosen name rows (Usage Seats text) is wrong = inr (inl (is, wrong))
+serve_chosen name rows (Usage LinkShouts text) is wrong = inr (inl (is, wrong))
+serve_chosen name rows (Usage ShoutsAcross text) is wrong = inr (inl (is, wrong))
+serve_chosen name rows (Usage Sought text) is wrong = inr (inl (is, wrong))
 serve_chosen name rows (Usage KeyFile text) is wrong = inr (inl (is, wrong))
 serve_chosen name rows (Usage Lifetime text) is wrong = inr (inl (is, wrong))
 serve_chosen name rows Memory is wrong = tt
@@ -266,4 +367,10 @@ token_chosen name rows (Usage Log text) is wrong = absurd wrong
 token_chosen name rows (Usage LogFormat text) is wrong = absurd wrong
 token_chosen name rows (Usage MetricsPort text) is wrong = absurd wrong
 token_chosen name rows (Usage Event text) is wrong = absurd wrong
+token_chosen name rows (Usage ApiPort text) is wrong = absurd wrong
+token_chosen name rows (Usage ApiKeys text) is wrong = absurd wrong
+token_chosen name rows (Usage Seats text) is wrong = absurd wrong
+token_chosen name rows (Usage LinkShouts text) is wrong = absurd wrong
+token_chosen name rows (Usage ShoutsAcross text) is wrong = absurd wrong
+token_chosen name rows (Usage Sought text) is wrong = absurd wrong
 token_chosen name rows Memory is wrong = tt

@@ -72,8 +72,8 @@ token_app =
     (option_rule (codes "for") Set)
 
 -- and those of what clients may do, of the files of keys, and of the stop
-abbrev pub serve_app : App
-serve_app =
+abbrev pub signed_app : App
+signed_app =
     with_rule (with_rule (with_rule (with_rule (with_rule (with_rule (with_rule (with_rule (with_rule watched_app
     (flag_rule (codes "phoenix")))
     (flag_rule (codes "fractions")))
@@ -84,6 +84,18 @@ serve_app =
     (option_rule (codes "token-keys") Set))
     (option_rule (codes "link-keys") Set))
     (option_rule (codes "grace") Set)
+
+-- and those of the file of the last incarnation, of the shouts of other nodes, of a name behind which they stand, and of backends
+abbrev pub serve_app : App
+serve_app =
+    with_rule (with_rule (with_rule (with_rule (with_rule (with_rule (with_rule signed_app
+    (option_rule (codes "state") Set))
+    (flag_rule (codes "shouts-across")))
+    (option_rule (codes "link-shouts") Set))
+    (option_rule (codes "peers") Set))
+    (option_rule (codes "api-port") Set))
+    (option_rule (codes "api-listen") Set))
+    (option_rule (codes "api-keys") Set)
 
 -- the program itself, which is nothing without a command, and has a version
 abbrev pub top_app : App

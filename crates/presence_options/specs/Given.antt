@@ -1,7 +1,7 @@
 -- Which options the words of a command line give, and which words are refused.
-use Rattle.std.specs.Prelude.{◌≡◌, ◌⊎◌, ◌≤◌, ◌<◌, ◌+◌, ◌-◌, ◌*◌, ◌==◌, ◌&&◌, min, nat_le, ℕ, List, [], ◌∷◌, ◌++◌, ◌||◌, Bool, false, true, cond, is_some, IsTrue, length, codes, string_bytes, unwrap_or, map, option_map, Option, Some, None}
-use Rattle.std.specs.Char.{is_ascii_digit}
+use Rattle.std.specs.Prelude.{◌≡◌, ◌⊎◌, ◌≤◌, ◌<◌, ◌&&◌, ℕ, List, [], ◌∷◌, ◌++◌, ◌||◌, Bool, false, true, cond, is_some, not, IsTrue, length, codes, string_bytes, unwrap_or, map, option_map, Option, Some, None}
 use Rattle.std.specs.List.{AllByRecursion}
+use Rattle.std.specs.Option.{ForSome}
 use Rattle.std.specs.Net.Addr.{IsCanonicalOf, MatchIp}
 use Rattle.std.specs.Net.Grammar.{IsIpText}
 use Rattle.std.specs.Str.{bytes_eq}
@@ -18,14 +18,18 @@ use Rattle.presence_options.specs.CommandLine.{program}
 use Rattle.presence_options.specs.Hosts.{is_host}
 use Rattle.presence_options.specs.Limits.{AreEventNames, is_peer_name, numbered}
 use Rattle.presence_options.specs.Origins.{AreOrigins}
+use Rattle.presence_options.specs.Seats.{seats_in}
+use Rattle.presence_options.specs.Times.{time_in}
 use Rattle.presence_options.specs.declared.addresses.AddressRule.{AddressRule}
+use Rattle.presence_options.specs.declared.beyond.Beyond.{Beyond}
 use Rattle.presence_options.specs.declared.command_line.Edge.{Edge}
 use Rattle.presence_options.specs.declared.fault.UsageCause.{UsageCause}
-use Rattle.presence_options.specs.declared.fault.UsageCause.TheVariants.{Words, Name, Incarnation, Route, Port, LinkPort, Shards, Workers, LinkVersion, Peer, Origin, PerAddress, HandshakesPerSecond, PeerName, Proxy, LinkFrom, MemoryLimit, TopicRows, TopicBytes, Grace, Log, LogFormat, MetricsPort, Event, KeyFile, Lifetime}
+use Rattle.presence_options.specs.declared.fault.UsageCause.TheVariants.{Words, Name, Incarnation, Route, Port, LinkPort, Shards, Workers, LinkVersion, Peer, Origin, PerAddress, HandshakesPerSecond, PeerName, Proxy, LinkFrom, MemoryLimit, TopicRows, TopicBytes, Grace, Log, LogFormat, MetricsPort, Event, ApiPort, ApiKeys, Seats, LinkShouts, ShoutsAcross, Sought, KeyFile, Lifetime}
 use Rattle.presence_options.specs.declared.fault.UsageFault.{UsageFault}
 use Rattle.presence_options.specs.declared.fault.UsageFault.TheVariants.{Usage, Memory}
 use Rattle.presence_options.specs.declared.options.Options.{Options}
 use Rattle.presence_options.specs.declared.options.Options.TheVariants.{Help, Version, Bare, Stdio, Fold, Serve, Token}
+use Rattle.presence_options.specs.declared.options.ApiOptions.{ApiOptions}
 use Rattle.presence_options.specs.declared.options.Budgets.{Budgets}
 use Rattle.presence_options.specs.declared.options.ClientOptions.{ClientOptions}
 use Rattle.presence_options.specs.declared.options.LineFormat.{LineFormat}
@@ -35,12 +39,13 @@ use Rattle.presence_options.specs.declared.options.Logged.TheVariants.{Refusals,
 use Rattle.presence_options.specs.declared.options.PeerOption.{PeerOption}
 use Rattle.presence_options.specs.declared.options.Reports.{Reports}
 use Rattle.presence_options.specs.declared.options.ServeOptions.{ServeOptions}
+use Rattle.presence_options.specs.declared.options.SoughtOption.{SoughtOption}
 use Rattle.presence_options.specs.declared.options.FoldOptions.{FoldOptions}
 use Rattle.presence_options.specs.declared.options.StdioOptions.{StdioOptions}
 use Rattle.presence_options.specs.declared.options.TokenOptions.{TokenOptions}
 use Rattle.presence_options.specs.declared.values.NumberRule.{NumberRule}
 use Rattle.presence_base.specs.declared.names.TheConstants.{MAX_SHARDS}
-use Rattle.presence_options.specs.declared.options.TheConstants.{LINK_PORT, MAX_EVENT_NAMES, MAX_GRACE, MAX_HANDSHAKES_PER_SECOND, MAX_LASTS, MAX_LINK_FROM, MAX_LINK_VERSION, MAX_MEMORY, MAX_ORIGINS, MAX_PER_ADDRESS, MAX_PROXIES, MAX_TOPIC_BYTES, MAX_TOPIC_ROWS, MAX_WORKERS, MIN_MEMORY, MIN_TOPIC_BYTES, TOPIC_BYTES, TOPIC_ROWS}
+use Rattle.presence_options.specs.declared.options.TheConstants.{LINK_PORT, LINK_SHOUTS, MAX_EVENT_NAMES, MAX_GRACE, MAX_HANDSHAKES_PER_SECOND, MAX_LINK_FROM, MAX_LINK_SHOUTS, MAX_LINK_VERSION, MAX_MEMORY, MAX_ORIGINS, MAX_PER_ADDRESS, MAX_PROXIES, MAX_TOPIC_BYTES, MAX_TOPIC_ROWS, MAX_WORKERS, MIN_MEMORY, MIN_TOPIC_BYTES, TOPIC_BYTES, TOPIC_ROWS}
 
 -- the number that a text's digits write
 abbrev pub number_in : Text → ℕ
@@ -163,6 +168,36 @@ token_keys_given rows = first_of (codes "token-keys") rows
 abbrev pub link_keys_given : List Row → Option Text
 link_keys_given rows = first_of (codes "link-keys") rows
 
+-- the file of the last incarnation, if it is given
+abbrev pub state_given : List Row → Option Text
+state_given rows = first_of (codes "state") rows
+
+-- the port of backends and the file of their keys, if they are given, and the address of the port, or this machine's own
+abbrev pub api_port_given : List Row → Option Text
+api_port_given rows = first_of (codes "api-port") rows
+
+abbrev pub api_keys_given : List Row → Option Text
+api_keys_given rows = first_of (codes "api-keys") rows
+
+abbrev pub api_listen_given : List Row → Text
+api_listen_given rows = unwrap_or (first_of (codes "api-listen") rows) (codes "127.0.0.1")
+
+-- how many seats that takes of the pool, beside those of the workers
+abbrev pub seats_given : List Row → ℕ
+seats_given rows = seats_in (number_in (workers_given rows)) (is_some (api_port_given rows))
+
+-- how many shouts links may bring, if that is given
+abbrev pub link_shouts_given : List Row → Option Text
+link_shouts_given rows = first_of (codes "link-shouts") rows
+
+-- the name behind which other nodes stand, if it is given
+abbrev pub sought_given : List Row → Option Text
+sought_given rows = first_of (codes "peers") rows
+
+-- that is given where links bring none
+abbrev pub is_stray : Bool → Bool → Bool
+is_stray given across = given && not across
+
 -- the file of keys, the subject and the topics of a token, if they are given
 abbrev pub key_given : List Row → Option Text
 key_given rows = first_of (codes "key") rows
@@ -173,28 +208,7 @@ subject_given rows = first_of (codes "sub") rows
 abbrev pub topics_given : List Row → Option (List Text)
 topics_given rows = all_of (codes "topics") rows
 
--- how many seconds a unit has
-abbrev pub unit_in : ℕ → Option ℕ
-unit_in b = cond (b == 115) (Some 1) (cond (b == 109) (Some 60) (cond (b == 104) (Some 3600) (cond (b == 100) (Some 86400) None)))
-
--- the time of so many units, of which this is told behind the number, and this behind that
-abbrev pub units_then : ℕ → ℕ → Text → Option ℕ
-units_then n b [] = option_map (λ unit. n * unit) (unit_in b)
-units_then n b (c ∷ cs) = None
-
--- the time that digits behind this number and a unit tell
-abbrev pub time_from : ℕ → Text → Option ℕ
-time_from n [] = None
-time_from n (b ∷ bs) = cond (is_ascii_digit b) (time_from (min (n * 10 + (b - 48)) (MAX_LASTS + 1)) bs) (units_then n b bs)
-
--- a time for which a token may last
-abbrev pub lasting : Option ℕ → Option ℕ
-lasting None = None
-lasting (Some n) = cond (nat_le 1 n && nat_le n MAX_LASTS) (Some n) None
-
-abbrev pub time_in : Text → Option ℕ
-time_in text = lasting (time_from 0 text)
-
+-- the text of the time that a token is to last
 abbrev pub time_given : List Row → Text
 time_given rows = unwrap_or (first_of (codes "for") rows) (codes "1h")
 
@@ -225,6 +239,10 @@ phoenix_given rows = flag_given (codes "phoenix") rows
 -- whether joins are matched
 abbrev pub match_joins_given : List Row → Bool
 match_joins_given rows = flag_given (codes "match-joins") rows
+
+-- whether shouts go to the clients of linked nodes too
+abbrev pub shouts_across_given : List Row → Bool
+shouts_across_given rows = flag_given (codes "shouts-across") rows
 
 -- the names of events that this option is given, in their order
 abbrev pub names_given : Text → List Row → List Text
@@ -264,6 +282,12 @@ pub record IsAddress (text host port : Text) : Type 0 where
 abbrev pub IsAddressIn : Text → Option (Text × ℕ) → Type 0
 IsAddressIn text (Some (host, n)) = (port : Text) × IsAddress text host port × (n ≡ number_in port)
 IsAddressIn text None = (host port : Text) → IsAddress text host port → ⊥
+
+-- the text is a host and a port
+pub record IsAddressText (text : Text) : Type 0 where
+  pub host : Text
+  pub port : Text
+  pub is : IsAddress text host port
 
 -- a node's name and an address, with `=` between them, which is the first one: no name has one
 pub record IsPeer (text name host port : Text) : Type 0 where
@@ -365,6 +389,32 @@ pub record AreClientsGiven (rows : List Row) (c : ClientOptions) : Type 0 where
   pub answered : c.answered.items ≡ names_given (codes "answered") rows
   pub to_others : c.to_others.items ≡ names_given (codes "to-others") rows
 
+-- backends are answered where a port and keys are given
+pub record IsApiGiven (rows : List Row) (api : Option ApiOptions) : Type 0 where
+  pub port : option_map (λ a. a.port) api ≡ option_map number_in (api_port_given rows)
+  pub keys : option_map (λ a. string_bytes a.keys) api ≡ api_keys_given rows
+  pub listen : ForSome api (λ a. string_bytes a.listen ≡ api_listen_given rows)
+
+-- and links bring shouts where that is given, as many a second as is given, which is nowhere else
+pub record AreShoutsGiven (rows : List Row) (across : Bool) (shouts : ℕ) : Type 0 where
+  pub across_is : across ≡ shouts_across_given rows
+  pub shouts_are : shouts ≡ number_or LINK_SHOUTS (link_shouts_given rows)
+  pub told : is_stray (is_some (link_shouts_given rows)) across ≡ false
+
+-- and the nodes behind a name are sought where one is given
+abbrev pub AreSought : Option Text → Option SoughtOption → Type 0
+AreSought None None = Unit {0}
+AreSought (Some text) (Some o) = IsAddressIn text (Some (string_bytes o.host, o.port))
+AreSought given sought = ⊥
+
+abbrev pub IsSoughtGiven : List Row → Option SoughtOption → Type 0
+IsSoughtGiven rows sought = AreSought (sought_given rows) sought
+
+pub record IsBeyondGiven (rows : List Row) (b : Beyond) : Type 0 where
+  pub api : IsApiGiven rows b.api
+  pub shouts : AreShoutsGiven rows b.shouts_across b.link_shouts
+  pub sought : IsSoughtGiven rows b.sought
+
 -- the same for a server
 pub record IsServed (rows : List Row) (o : ServeOptions) : Type 0 where
   pub name : o.name ≡ name_given rows
@@ -388,6 +438,10 @@ pub record IsServed (rows : List Row) (o : ServeOptions) : Type 0 where
   pub clients : AreClientsGiven rows o.clients
   pub token_keys : option_map string_bytes o.token_keys ≡ token_keys_given rows
   pub link_keys : option_map string_bytes o.link_keys ≡ link_keys_given rows
+  pub state : option_map string_bytes o.state ≡ state_given rows
+  pub api : IsApiGiven rows o.api
+  pub shouts : AreShoutsGiven rows o.shouts_across o.link_shouts
+  pub sought : IsSoughtGiven rows o.sought
 
 -- and for a token
 pub record IsToken (rows : List Row) (o : TokenOptions) : Type 0 where
@@ -451,34 +505,12 @@ IsFor cause Reason Memory = Unit {0}
 
 -- why the options of `stdio` are refused: the name is looked at first, then the incarnation, then the routes
 abbrev pub Refuses : List Row → UsageCause → Type 0
-Refuses rows Words = ⊥
 Refuses rows Name = is_node_name (name_given rows) ≡ false
 Refuses rows Incarnation = IsTrue (is_node_name (name_given rows)) × (IsIncarnation (incarnation_given rows) → ⊥)
 Refuses rows Route =
     IsTrue (is_node_name (name_given rows)) × IsIncarnation (incarnation_given rows)
     × (AreFewPatterns (patterns_given rows) → ⊥)
-Refuses rows Port = ⊥
-Refuses rows LinkPort = ⊥
-Refuses rows Shards = ⊥
-Refuses rows Workers = ⊥
-Refuses rows LinkVersion = ⊥
-Refuses rows Peer = ⊥
-Refuses rows Origin = ⊥
-Refuses rows PerAddress = ⊥
-Refuses rows HandshakesPerSecond = ⊥
-Refuses rows PeerName = ⊥
-Refuses rows Proxy = ⊥
-Refuses rows LinkFrom = ⊥
-Refuses rows MemoryLimit = ⊥
-Refuses rows TopicRows = ⊥
-Refuses rows TopicBytes = ⊥
-Refuses rows Grace = ⊥
-Refuses rows Log = ⊥
-Refuses rows LogFormat = ⊥
-Refuses rows MetricsPort = ⊥
-Refuses rows Event = ⊥
-Refuses rows KeyFile = ⊥
-Refuses rows Lifetime = ⊥
+Refuses rows cause = ⊥
 
 -- patterns, no more than are allowed, if some are given
 abbrev pub AreTopicPatterns : Option (List Text) → Type 0
@@ -622,13 +654,45 @@ abbrev pub IsUnnamed : List Row → UsageFault → Type 0
 IsUnnamed rows (Usage cause text) = UnnamedFor rows cause
 IsUnnamed rows Memory = Unit {0}
 
+-- backends are answered and links bring shouts by what goes together, or why not: the port of backends is looked at first,
+-- then whether there are keys with it, then how many shouts links may bring, whether they bring some, and the name behind which
+-- other nodes stand, which goes with a port of links that is told and without keys of links
+abbrev pub IsApiPort : List Row → Type 0
+IsApiPort rows = IsUpTo 65535 (api_port_given rows)
+
+abbrev pub AreKeyed : List Row → Type 0
+AreKeyed rows = is_some (api_port_given rows) ≡ is_some (api_keys_given rows)
+
+abbrev pub AreLinkShouts : List Row → Type 0
+AreLinkShouts rows = IsUpTo MAX_LINK_SHOUTS (link_shouts_given rows)
+
+abbrev pub MaySeek : List Row → Type 0
+MaySeek rows = ForSome (sought_given rows) (λ text. IsAddressText text × IsTrue (is_some (link_port_given rows))
+    × IsTrue (not (is_some (link_keys_given rows))))
+
+abbrev pub IsStray : List Row → Type 0
+IsStray rows = IsTrue (is_stray (is_some (link_shouts_given rows)) (shouts_across_given rows))
+
+abbrev pub UnreachedFor : List Row → UsageCause → Type 0
+UnreachedFor rows ApiPort = IsApiPort rows → ⊥
+UnreachedFor rows ApiKeys = IsApiPort rows × (AreKeyed rows → ⊥)
+UnreachedFor rows LinkShouts = IsApiPort rows × AreKeyed rows × (AreLinkShouts rows → ⊥)
+UnreachedFor rows ShoutsAcross = IsApiPort rows × AreKeyed rows × AreLinkShouts rows × IsStray rows
+UnreachedFor rows Sought = IsApiPort rows × AreKeyed rows × AreLinkShouts rows × (IsStray rows → ⊥) × (MaySeek rows → ⊥)
+UnreachedFor rows cause = ⊥
+
+abbrev pub IsUnreached : List Row → UsageFault → Type 0
+IsUnreached rows (Usage cause text) = UnreachedFor rows cause
+IsUnreached rows Memory = Unit {0}
+
 -- why what stands beside the node itself is refused: the proxies are looked at first, then the addresses of links, what
--- everybody together may take, what an operator is told, and what clients may do
+-- everybody together may take, what an operator is told, what clients may do, and who else is answered and heard
 abbrev pub EdgeRefuses : List Row → UsageCause → Type 0
 EdgeRefuses rows Proxy = AreProxies rows → ⊥
 EdgeRefuses rows LinkFrom = AreProxies rows × (AreLinkFrom rows → ⊥)
 EdgeRefuses rows cause = AreProxies rows × AreLinkFrom rows
-    × (WastefulFor rows cause ⊎ ((IsFrugal rows × UntoldFor rows cause) ⊎ (IsFrugal rows × IsTold rows × UnnamedFor rows cause)))
+    × (WastefulFor rows cause ⊎ ((IsFrugal rows × UntoldFor rows cause) ⊎ ((IsFrugal rows × IsTold rows × UnnamedFor rows cause)
+    ⊎ (IsFrugal rows × IsTold rows × AreAllNames rows × UnreachedFor rows cause))))
 
 abbrev pub IsEdgeWrong : List Row → UsageFault → Type 0
 IsEdgeWrong rows (Usage cause text) = EdgeRefuses rows cause
@@ -643,6 +707,8 @@ pub record IsEdge (rows : List Row) (e : Edge) : Type 0 where
   pub clients : AreClientsGiven rows e.clients
   pub token_keys : option_map string_bytes e.token_keys ≡ token_keys_given rows
   pub link_keys : option_map string_bytes e.link_keys ≡ link_keys_given rows
+  pub state : option_map string_bytes e.state ≡ state_given rows
+  pub beyond : IsBeyondGiven rows e.beyond
 
 -- the node itself, its peers and its addresses are within their limits
 pub record IsNode (rows : List Row) : Type 0 where
@@ -659,7 +725,7 @@ pub record IsNode (rows : List Row) : Type 0 where
 
 -- why the options of `serve` are refused: the name is looked at first, then the incarnation, the port, that of links, the
 -- shards, the workers, the version of links, the peers, the origins, how many clients and handshakes one address may have,
--- the routes, the peers' names, and what stands beside the node itself
+-- the routes, the peers' names, the seats, and what stands beside the node itself
 abbrev pub ServeRefuses : List Row → UsageCause → Type 0
 ServeRefuses rows Incarnation = IsTrue (is_node_name (name_given rows)) × (IsLife (life_given rows) → ⊥)
 ServeRefuses rows Port = IsNamed rows × (IsPort rows → ⊥)
@@ -683,7 +749,8 @@ ServeRefuses rows HandshakesPerSecond = IsNamed rows × ArePorts rows × AreShar
 ServeRefuses rows Name = is_node_name (name_given rows) ≡ false
 ServeRefuses rows Words = ⊥
 ServeRefuses rows PeerName = IsNode rows × IsOwnPeer rows
-ServeRefuses rows cause = IsNode rows × AreOtherPeers rows × EdgeRefuses rows cause
+ServeRefuses rows Seats = IsNode rows × AreOtherPeers rows × (MAX_WORKERS < seats_given rows)
+ServeRefuses rows cause = IsNode rows × AreOtherPeers rows × (seats_given rows ≤ MAX_WORKERS) × EdgeRefuses rows cause
 
 abbrev pub IsWrong : List Row → UsageFault → Type 0
 IsWrong rows (Usage cause text) = Refuses rows cause

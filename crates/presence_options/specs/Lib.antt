@@ -1,4 +1,6 @@
 pub mod CommandLine
+pub mod Seats
+pub mod Times
 pub mod Limits
 pub mod Given
 pub mod Origins

@@ -1,5 +1,5 @@
 -- What the options of a command line keep.
-use Rattle.std.specs.Prelude.{◌≡◌, ◌≤◌, ◌+◌, ◌||◌, ◌&&◌, nat_le, ℕ, Bool, false, List, [], ◌∷◌, bytes_eq, length, map, string_bytes, IsTrue}
+use Rattle.std.specs.Prelude.{◌≡◌, ◌≤◌, ◌+◌, ◌||◌, ◌&&◌, nat_le, ℕ, Bool, false, List, [], ◌∷◌, bytes_eq, is_some, length, map, string_bytes, IsTrue, Option}
 use Rattle.std.specs.Option.{ForSome}
 use Rattle.std.specs.List.{AllByRecursion}
 use Rattle.presence_base.specs.Names.{is_node_name}
@@ -7,13 +7,16 @@ use Rattle.presence_base.specs.Refs.{IsCount}
 use Rattle.hook_registry.specs.Patterns.{is_pattern}
 use Rattle.hook_registry.specs.declared.routes.TheConstants.{MAX_ROUTES}
 use Rattle.presence_options.specs.Origins.{AreOrigins}
+use Rattle.presence_options.specs.Seats.{seats_in}
+use Rattle.presence_options.specs.declared.beyond.Beyond.{Beyond}
 use Rattle.presence_options.specs.declared.command_line.Edge.{Edge}
+use Rattle.presence_options.specs.declared.options.ApiOptions.{ApiOptions}
 use Rattle.presence_options.specs.declared.options.Budgets.{Budgets}
 use Rattle.presence_options.specs.declared.options.PeerOption.{PeerOption}
 use Rattle.presence_options.specs.declared.options.StdioOptions.{StdioOptions}
 use Rattle.presence_options.specs.declared.options.ServeOptions.{ServeOptions}
 use Rattle.presence_base.specs.declared.names.TheConstants.{MAX_SHARDS}
-use Rattle.presence_options.specs.declared.options.TheConstants.{MAX_EVENT_BYTES, MAX_GRACE, MAX_HANDSHAKES_PER_SECOND, MAX_LINK_FROM, MAX_LINK_VERSION, MAX_MEMORY, MAX_ORIGINS, MAX_PER_ADDRESS, MAX_PROXIES, MAX_TOPIC_BYTES, MAX_TOPIC_ROWS, MAX_WORKERS, MIN_MEMORY, MIN_TOPIC_BYTES}
+use Rattle.presence_options.specs.declared.options.TheConstants.{MAX_EVENT_BYTES, MAX_GRACE, MAX_HANDSHAKES_PER_SECOND, MAX_LINK_FROM, MAX_LINK_SHOUTS, MAX_LINK_VERSION, MAX_MEMORY, MAX_ORIGINS, MAX_PER_ADDRESS, MAX_PROXIES, MAX_TOPIC_BYTES, MAX_TOPIC_ROWS, MAX_WORKERS, MIN_MEMORY, MIN_TOPIC_BYTES}
 use Rattle.presence_options.specs.declared.options.Options.{Options}
 use Rattle.presence_options.specs.declared.options.Options.TheVariants.{Help, Version, Bare, Stdio, Fold, Serve, Token}
 
@@ -64,16 +67,25 @@ pub record AreBudgets (b : Budgets) : Type 0 where
   pub topic_bytes : IsFromTo MIN_TOPIC_BYTES MAX_TOPIC_BYTES b.topic_bytes
   pub grace : b.grace ≤ MAX_GRACE
 
+-- backends are answered at a port, and how many shouts links may bring is within its limits
+abbrev pub IsApiWithin : Option ApiOptions → Type 0
+IsApiWithin api = ForSome api (λ a. IsFrom1To 65535 a.port)
+
+pub record IsBeyondWithin (b : Beyond) : Type 0 where
+  pub api : IsApiWithin b.api
+  pub link_shouts : IsFrom1To MAX_LINK_SHOUTS b.link_shouts
+
 -- and what stands beside the node itself
 pub record IsEdgeWithin (e : Edge) : Type 0 where
   pub proxies : length e.proxies.items ≤ MAX_PROXIES
   pub link_from : length e.link_from.items ≤ MAX_LINK_FROM
   pub budgets : AreBudgets e.budgets
   pub metrics_port : ForSome e.reports.metrics_port (IsFrom1To 65535)
+  pub beyond : IsBeyondWithin e.beyond
 
 -- the same for a server, with ports from 1 to 65535, shards, workers, origins, proxies and addresses of links as many as
 -- there may be, each origin one as browsers tell it, peers of other names than its own, and a version of links; its incarnation
--- may be left to the clock, and what one address may have to the server
+-- may be left to the clock, and what one address may have to the server; workers and backends together have a seat each
 pub record IsServedWithin (o : ServeOptions) : Type 0 where
   pub name : IsTrue (is_node_name o.name)
   pub incarnation : ForSome o.incarnation IsCount
@@ -92,6 +104,9 @@ pub record IsServedWithin (o : ServeOptions) : Type 0 where
   pub link_from : length o.link_from.items ≤ MAX_LINK_FROM
   pub budgets : AreBudgets o.budgets
   pub metrics_port : ForSome o.reports.metrics_port (IsFrom1To 65535)
+  pub api : IsApiWithin o.api
+  pub seats : seats_in o.workers (is_some o.api) ≤ MAX_WORKERS
+  pub link_shouts : IsFrom1To MAX_LINK_SHOUTS o.link_shouts
 
 abbrev pub AreWithin : Options → Type 0
 AreWithin (Help text) = Unit {0}

@@ -4,12 +4,13 @@ ghost use Rattle.clap.specs.Words.{rule_of};
 ghost use Rattle.presence_options.specs.CommandLine.{flag_rule, option_rule};
 
 use crate::help::{
-    ANSWERED_HELP, EVENT_HELP, EXPLAIN_HELP, FOR_HELP, FRACTIONS_HELP, GRACE_HELP, HANDSHAKES_HELP,
-    KEY_HELP, LINK_FROM_HELP, LINK_KEYS_HELP, LINK_LISTEN_HELP, LINK_PORT_HELP, LINK_VERSION_HELP,
+    ANSWERED_HELP, API_KEYS_HELP, API_LISTEN_HELP, API_PORT_HELP, EVENT_HELP, EXPLAIN_HELP,
+    FOR_HELP, FRACTIONS_HELP, GRACE_HELP, HANDSHAKES_HELP, KEY_HELP, LINK_FROM_HELP,
+    LINK_KEYS_HELP, LINK_LISTEN_HELP, LINK_PORT_HELP, LINK_SHOUTS_HELP, LINK_VERSION_HELP,
     LISTEN_HELP, LOG_FORMAT_HELP, LOG_HELP, MATCH_JOINS_HELP, MEMORY_HELP, METRICS_PORT_HELP,
-    NAME_HELP, NOTICES_HELP, ORIGIN_HELP, PEER_HELP, PER_ADDRESS_HELP, PHOENIX_HELP, PORT_HELP,
-    PROXY_HELP, ROUTE_HELP, SHARDS_HELP, SUB_HELP, TO_OTHERS_HELP, TOKEN_KEYS_HELP,
-    TOPIC_BYTES_HELP, TOPIC_ROWS_HELP, TOPICS_HELP, WORKERS_HELP,
+    NAME_HELP, NOTICES_HELP, ORIGIN_HELP, PEER_HELP, PEERS_HELP, PER_ADDRESS_HELP, PHOENIX_HELP,
+    PORT_HELP, PROXY_HELP, ROUTE_HELP, SHARDS_HELP, SHOUTS_ACROSS_HELP, STATE_HELP, SUB_HELP,
+    TO_OTHERS_HELP, TOKEN_KEYS_HELP, TOPIC_BYTES_HELP, TOPIC_ROWS_HELP, TOPICS_HELP, WORKERS_HELP,
 };
 use clap::{Arg, ArgAction};
 use std::alloc::Global;
@@ -381,6 +382,42 @@ pub(crate) fn metrics_port_option<'a>(alloc: Global) -> Arg<'a>
         .help(METRICS_PORT_HELP)
 }
 
+/// `--api-port PORT`.
+pub(crate) fn api_port_option<'a>(alloc: Global) -> Arg<'a>
+    ensures rule { rule_of result ≡ option_rule (codes "api-port") ArgAction.Set }
+    ensures local { result.global ≡ false }
+{
+    Arg::new(alloc, "api-port")
+        .long("api-port")
+        .value_name("PORT")
+        .action(ArgAction::Set)
+        .help(API_PORT_HELP)
+}
+
+/// `--api-listen ADDRESS`.
+pub(crate) fn api_listen_option<'a>(alloc: Global) -> Arg<'a>
+    ensures rule { rule_of result ≡ option_rule (codes "api-listen") ArgAction.Set }
+    ensures local { result.global ≡ false }
+{
+    Arg::new(alloc, "api-listen")
+        .long("api-listen")
+        .value_name("ADDRESS")
+        .action(ArgAction::Set)
+        .help(API_LISTEN_HELP)
+}
+
+/// `--api-keys FILE`.
+pub(crate) fn api_keys_option<'a>(alloc: Global) -> Arg<'a>
+    ensures rule { rule_of result ≡ option_rule (codes "api-keys") ArgAction.Set }
+    ensures local { result.global ≡ false }
+{
+    Arg::new(alloc, "api-keys")
+        .long("api-keys")
+        .value_name("FILE")
+        .action(ArgAction::Set)
+        .help(API_KEYS_HELP)
+}
+
 /// `--token-keys FILE`.
 pub(crate) fn token_keys_option<'a>(alloc: Global) -> Arg<'a>
     ensures rule { rule_of result ≡ option_rule (codes "token-keys") ArgAction.Set }
@@ -403,6 +440,53 @@ pub(crate) fn link_keys_option<'a>(alloc: Global) -> Arg<'a>
         .value_name("FILE")
         .action(ArgAction::Set)
         .help(LINK_KEYS_HELP)
+}
+
+/// `--state FILE`.
+pub(crate) fn state_option<'a>(alloc: Global) -> Arg<'a>
+    ensures rule { rule_of result ≡ option_rule (codes "state") ArgAction.Set }
+    ensures local { result.global ≡ false }
+{
+    Arg::new(alloc, "state")
+        .long("state")
+        .value_name("FILE")
+        .action(ArgAction::Set)
+        .help(STATE_HELP)
+}
+
+/// `--shouts-across`.
+pub(crate) fn shouts_across_flag<'a>(alloc: Global) -> Arg<'a>
+    ensures rule { rule_of result ≡ flag_rule (codes "shouts-across") }
+    ensures local { result.global ≡ false }
+{
+    Arg::new(alloc, "shouts-across")
+        .long("shouts-across")
+        .action(ArgAction::SetTrue)
+        .help(SHOUTS_ACROSS_HELP)
+}
+
+/// `--link-shouts NUMBER`.
+pub(crate) fn link_shouts_option<'a>(alloc: Global) -> Arg<'a>
+    ensures rule { rule_of result ≡ option_rule (codes "link-shouts") ArgAction.Set }
+    ensures local { result.global ≡ false }
+{
+    Arg::new(alloc, "link-shouts")
+        .long("link-shouts")
+        .value_name("NUMBER")
+        .action(ArgAction::Set)
+        .help(LINK_SHOUTS_HELP)
+}
+
+/// `--peers HOST:PORT`.
+pub(crate) fn sought_option<'a>(alloc: Global) -> Arg<'a>
+    ensures rule { rule_of result ≡ option_rule (codes "peers") ArgAction.Set }
+    ensures local { result.global ≡ false }
+{
+    Arg::new(alloc, "peers")
+        .long("peers")
+        .value_name("HOST:PORT")
+        .action(ArgAction::Set)
+        .help(PEERS_HELP)
 }
 
 /// `--key FILE`.

@@ -2,13 +2,16 @@
 ghost use Rattle.std.specs.Prelude.{◌≡◌, IfOk, IfErr, OnOk, codes, map, option_map};
 ghost use Rattle.std.specs.Option.{ForSome};
 ghost use Rattle.clap.specs.Words.{app_of, found_of, kind_of, rows_of, subcommand_rows_of};
-ghost use Rattle.presence_options.specs.CommandLine.{stdio_app, fold_app, linked_app, serve_app, served_app, token_app, watched_app, program};
+ghost use Rattle.presence_options.specs.CommandLine.{stdio_app, fold_app, linked_app, serve_app, served_app, signed_app, token_app, watched_app, program};
 ghost use Rattle.presence_options.specs.Given.{AreAllNames, AreBudgetsGiven, AreClientsGiven, AreNames, AreReportsGiven, AskFor, Chooses, ChoosesNone, HasCause, IsEdge, IsEdgeWrong, IsFor, IsFrugal, IsGiven, IsHelpFor, IsNoHelp, IsServed, IsServedWrong, IsTold, IsUntold, IsWasteful, IsWrong, Refused, events_given, names_given};
 ghost use Rattle.presence_options.specs.Limits.{AreBudgets, AreWithin, IsEdgeWithin, IsFrom1To, IsServedWithin, IsWithin};
 
 use crate::addresses::AddressRule;
 use crate::addresses::listen_of;
 use crate::arguments::answered_option;
+use crate::arguments::api_keys_option;
+use crate::arguments::api_listen_option;
+use crate::arguments::api_port_option;
 use crate::arguments::event_option;
 use crate::arguments::explain_flag;
 use crate::arguments::fractions_flag;
@@ -20,6 +23,7 @@ use crate::arguments::link_from_option;
 use crate::arguments::link_keys_option;
 use crate::arguments::link_listen_option;
 use crate::arguments::link_port_option;
+use crate::arguments::link_shouts_option;
 use crate::arguments::link_version_option;
 use crate::arguments::listen_option;
 use crate::arguments::log_format_option;
@@ -37,6 +41,9 @@ use crate::arguments::port_option;
 use crate::arguments::proxy_option;
 use crate::arguments::route_option;
 use crate::arguments::shards_option;
+use crate::arguments::shouts_across_flag;
+use crate::arguments::sought_option;
+use crate::arguments::state_option;
 use crate::arguments::subject_option;
 use crate::arguments::time_option;
 use crate::arguments::to_others_option;
@@ -45,6 +52,9 @@ use crate::arguments::topic_bytes_option;
 use crate::arguments::topic_rows_option;
 use crate::arguments::topics_option;
 use crate::arguments::workers_option;
+use crate::beyond::Beyond;
+use crate::beyond::beyond_of;
+use crate::beyond::seats_checked;
 use crate::event_names::with_all;
 use crate::fault::UsageCause;
 use crate::fault::UsageFault;
@@ -61,6 +71,7 @@ use crate::found::given_per_address;
 use crate::found::given_routes;
 use crate::found::given_text;
 use crate::found::is_flagged;
+use crate::found::is_given;
 use crate::found::text_given;
 use crate::help::ALL_OPTIONS;
 use crate::help::FOLD_REFUSALS;
@@ -204,9 +215,9 @@ fn token_command<'a>(alloc: Global) -> Result<Command<'a>, AllocError>
         .arg(time_option(alloc))
 }
 
-// The command `serve` with all of its options.
-fn serve_command<'a>(alloc: Global) -> Result<Command<'a>, AllocError>
-    ensures { IfOk result (λ c. app_of c ≡ serve_app) }
+// The command `serve` with those of its clients, of the files of keys, and of the stop too.
+fn signed_command<'a>(alloc: Global) -> Result<Command<'a>, AllocError>
+    ensures { IfOk result (λ c. app_of c ≡ signed_app) }
 {
     watched_command(alloc)?
         .arg(phoenix_flag(alloc))?
@@ -218,6 +229,20 @@ fn serve_command<'a>(alloc: Global) -> Result<Command<'a>, AllocError>
         .arg(token_keys_option(alloc))?
         .arg(link_keys_option(alloc))?
         .arg(grace_option(alloc))
+}
+
+// The command `serve` with all of its options.
+fn serve_command<'a>(alloc: Global) -> Result<Command<'a>, AllocError>
+    ensures { IfOk result (λ c. app_of c ≡ serve_app) }
+{
+    signed_command(alloc)?
+        .arg(state_option(alloc))?
+        .arg(shouts_across_flag(alloc))?
+        .arg(link_shouts_option(alloc))?
+        .arg(sought_option(alloc))?
+        .arg(api_port_option(alloc))?
+        .arg(api_listen_option(alloc))?
+        .arg(api_keys_option(alloc))
 }
 
 // The whole command line.
@@ -347,7 +372,7 @@ fn stdio_options(alloc: Global, matches: &ArgMatches<'_>) -> Result<StdioOptions
 }
 
 // What stands beside the node itself: proxies, the addresses of links, what everybody together may take, what an operator
-// is told, what clients may do, and the files of keys.
+// is told, what clients may do, the files of keys and of the last incarnation, and who else is answered and heard.
 #[derive(Drop)]
 struct Edge {
     proxies: Vec<IpAddr>,
@@ -357,6 +382,8 @@ struct Edge {
     clients: ClientOptions,
     token_keys: Option<String>,
     link_keys: Option<String>,
+    state: Option<String>,
+    beyond: Beyond,
 }
 
 // The rules of the options that are numbers or addresses.
@@ -473,7 +500,7 @@ fn clients_of(alloc: Global, matches: &ArgMatches<'_>) -> Result<ClientOptions, 
 }
 
 // What stands beside the node itself.
-#[tactic(auto, using(crate::proofs::Serving::untold_edge, crate::proofs::Serving::wasteful_edge, crate::proofs::Serving::unnamed_edge))]
+#[tactic(auto, using(crate::proofs::Serving::untold_edge, crate::proofs::Serving::wasteful_edge, crate::proofs::Serving::unnamed_edge, crate::proofs::Serving::unreached_edge))]
 fn edge_of(alloc: Global, matches: &ArgMatches<'_>) -> Result<Edge, UsageFault>
     ensures given { IfOk result (IsEdge (rows_of (found_of matches.now))) }
     ensures limits { IfOk result IsEdgeWithin }
@@ -486,6 +513,8 @@ fn edge_of(alloc: Global, matches: &ArgMatches<'_>) -> Result<Edge, UsageFault>
     let clients = clients_of(alloc, matches)?;
     let token_keys = given_text(alloc, matches, "token-keys")?;
     let link_keys = given_text(alloc, matches, "link-keys")?;
+    let state = given_text(alloc, matches, "state")?;
+    let beyond = beyond_of(alloc, matches)?;
     Ok(Edge {
         proxies,
         link_from,
@@ -494,10 +523,13 @@ fn edge_of(alloc: Global, matches: &ArgMatches<'_>) -> Result<Edge, UsageFault>
         clients,
         token_keys,
         link_keys,
+        state,
+        beyond,
     })
 }
 
 // The options of the words behind `serve`.
+#[tactic(auto, using(crate::proofs::Reaching::few_seats))]
 fn serve_options(alloc: Global, matches: &ArgMatches<'_>) -> Result<ServeOptions, UsageFault>
     ensures given { IfOk result (IsServed (rows_of (found_of matches.now))) }
     ensures limits { IfOk result IsServedWithin }
@@ -516,6 +548,7 @@ fn serve_options(alloc: Global, matches: &ArgMatches<'_>) -> Result<ServeOptions
     let handshakes_per_second = given_handshakes(alloc, matches)?;
     let routes = given_routes(alloc, matches)?;
     names_checked(alloc, &name, peers.as_slice())?;
+    seats_checked(alloc, workers, is_given(matches, "api-port"))?;
     let Edge {
         proxies,
         link_from,
@@ -524,7 +557,15 @@ fn serve_options(alloc: Global, matches: &ArgMatches<'_>) -> Result<ServeOptions
         clients,
         token_keys,
         link_keys,
+        state,
+        beyond,
     } = edge_of(alloc, matches)?;
+    let Beyond {
+        api,
+        shouts_across,
+        link_shouts,
+        sought,
+    } = beyond;
     Ok(ServeOptions {
         name,
         incarnation,
@@ -547,6 +588,11 @@ fn serve_options(alloc: Global, matches: &ArgMatches<'_>) -> Result<ServeOptions
         clients,
         token_keys,
         link_keys,
+        state,
+        api,
+        shouts_across,
+        link_shouts,
+        sought,
     })
 }
 

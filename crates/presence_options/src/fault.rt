@@ -53,6 +53,18 @@ pub enum UsageCause {
     MetricsPort,
     /// A name of an event is empty or too long, or there are too many.
     Event,
+    /// The port of backends is no number from 1 to 65535.
+    ApiPort,
+    /// The port of backends is given without a file of keys, or the other way round.
+    ApiKeys,
+    /// The workers leave no seat to backends.
+    Seats,
+    /// How many shouts links may bring is no number from 1 to `MAX_LINK_SHOUTS`.
+    LinkShouts,
+    /// It is given where links bring none.
+    ShoutsAcross,
+    /// What is to have the addresses of other nodes is no host and port, or doesn't go with the options of links.
+    Sought,
     /// No file of keys is given.
     KeyFile,
     /// The time that a token is to last is none, or more than `MAX_LASTS`.

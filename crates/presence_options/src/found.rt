@@ -1,9 +1,9 @@
 //! What the parser found of each option.
-ghost use Rattle.std.specs.Prelude.{◌≡◌, ◌≤◌, IfErr, IfOk, OnOk, map, option_map, string_bytes, unwrap_or, vec_len};
+ghost use Rattle.std.specs.Prelude.{◌≡◌, ◌≤◌, IfErr, IfOk, OnOk, is_some, map, option_map, string_bytes, unwrap_or, vec_len};
 ghost use Rattle.std.specs.Option.{ForSome};
 ghost use Rattle.presence_base.specs.Refs.{IsCount};
 ghost use Rattle.clap.specs.Words.{first_of, found_of, rows_of};
-ghost use Rattle.presence_options.specs.Given.{AreByRule, AreFewOrigins, AreFewPatterns, AreHandshakes, AreNames, AllArePeers, ArePeers, IsByRule, IsFor, IsLife, IsLinkPort, IsMetricsPort, IsPerAddress, WriteAddresses, flag_given, handshakes_given, life_given, link_port_in, metrics_port_given, names_given, number_in, origins_given, patterns_given, peers_given, per_address_given, texts_for};
+ghost use Rattle.presence_options.specs.Given.{AreByRule, AreFewOrigins, AreFewPatterns, AreHandshakes, AreNames, AllArePeers, ArePeers, IsApiPort, IsByRule, IsFor, IsLife, IsLinkPort, IsMetricsPort, IsPerAddress, WriteAddresses, api_port_given, flag_given, handshakes_given, life_given, link_port_in, metrics_port_given, names_given, number_in, origins_given, patterns_given, peers_given, per_address_given, texts_for};
 ghost use Rattle.presence_options.specs.declared.options.TheConstants.{MAX_HANDSHAKES_PER_SECOND, MAX_ORIGINS, MAX_PER_ADDRESS};
 ghost use Rattle.presence_options.specs.Limits.{AreRoutes, IsFrom1To, IsFromTo, numbered};
 ghost use Rattle.presence_options.specs.Origins.{AreOrigins};
@@ -171,6 +171,14 @@ pub(crate) fn is_flagged(matches: &ArgMatches<'_>, id: &str) -> bool
     }
 }
 
+/// Whether the option is given.
+#[tactic(auto, using(crate::proofs::Rows::first_read))]
+pub(crate) fn is_given(matches: &ArgMatches<'_>, id: &str) -> bool
+    ensures { result ≡ is_some (first_of id.now (rows_of (found_of matches.now))) }
+{
+    matches.get_str(id).is_some()
+}
+
 /// The port of links that is given, or the usual one where peers are named.
 #[tactic(auto, using(crate::proofs::Rows::first_read, crate::proofs::Rows::all_read))]
 pub(crate) fn given_link_port(
@@ -211,6 +219,27 @@ pub(crate) fn given_metrics_port(
         return Ok(None);
     };
     match further_port_of(alloc, text, UsageCause::MetricsPort, "metrics-port") {
+        Ok(port) => Ok(Some(port)),
+        Err(fault) => Err(fault),
+    }
+}
+
+/// The port of backends that is given, if one is.
+#[tactic(auto, using(crate::proofs::Rows::first_read))]
+pub(crate) fn given_api_port(
+    alloc: Global,
+    matches: &ArgMatches<'_>,
+) -> Result<Option<u16>, UsageFault>
+    ensures port { IfOk result
+        (λ port. port ≡ option_map number_in (api_port_given (rows_of (found_of matches.now)))) }
+    ensures limits { IfOk result (λ port. ForSome port (IsFrom1To 65535)) }
+    ensures given { OnOk result (IsApiPort (rows_of (found_of matches.now))) }
+    ensures cause { IfErr result (IsFor UsageCause.ApiPort (IsApiPort (rows_of (found_of matches.now)) → ⊥)) }
+{
+    let Some(text) = matches.get_str("api-port") else {
+        return Ok(None);
+    };
+    match further_port_of(alloc, text, UsageCause::ApiPort, "api-port") {
         Ok(port) => Ok(Some(port)),
         Err(fault) => Err(fault),
     }

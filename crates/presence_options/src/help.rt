@@ -2,7 +2,7 @@
 //! characters; an option's help has its default at the end of its first line.
 
 /// The version of the program, and the day of its sources: the year, the month and the day.
-pub const VERSION: &str = "0.3.0+20261201";
+pub const VERSION: &str = "0.2.0+20261201";
 
 /// How the program is called.
 pub(crate) const USAGES: &str = "presence_node serve [OPTIONS]
@@ -93,7 +93,7 @@ pub(crate) const TOPIC_BYTES_HELP: &str =
 pub(crate) const GRACE_HELP: &str = "Seconds over which clients are let go, 0 to 3600 [default: 0]
 At a stop, and at a line drain on standard input: some at a time,
 while no further one is taken, and then it stops
-A second line stop is at once";
+A line stop meanwhile is at once";
 
 pub(crate) const LOG_HELP: &str = "Lines of which clients: refused, all or none [default: refused]
 On standard error, of those that are refused, dropped or closed for
@@ -116,6 +116,32 @@ A line keys on standard input reads them again";
 pub(crate) const LINK_KEYS_HELP: &str = "Keys that nodes show one another [default: they show none]
 A file as that of --token-keys, to be given to all nodes: a node is
 linked to where it has one of these keys too";
+
+pub(crate) const STATE_HELP: &str = "A file that keeps which life this is [default: none]
+Of this node alone. A node that was killed and starts anew takes down
+at once what other nodes show of its life before";
+
+pub(crate) const PEERS_HELP: &str = "The nodes behind a name, to link to [default: none]
+Each of its addresses is that of a node; this one's own is passed
+over. It is asked for them again each 30 seconds";
+
+pub(crate) const SHOUTS_ACROSS_HELP: &str = "Shouts go to the clients of linked nodes too
+Give it to all nodes";
+
+pub(crate) const LINK_SHOUTS_HELP: &str =
+    "Shouts a second that links may bring, 1 to 1000000 [default: 20000]
+All of them together, to this node; beside --shouts-across";
+
+pub(crate) const API_PORT_HELP: &str = "The port of backends, 1 to 65535 [default: none]
+They publish, ask who is there and put clients out, by HTTP;
+it wants --api-keys";
+
+pub(crate) const API_LISTEN_HELP: &str = "The address of the port of backends [default: 127.0.0.1]";
+
+pub(crate) const API_KEYS_HELP: &str = "Keys that backends show
+A file as that of --token-keys; each request has the field
+Authorization: Bearer KEY, with a key as its line has it, or what
+stands there behind base64url:";
 
 pub(crate) const SHARDS_HELP: &str = "How many shards the topics are dealt to, 1 to 4 [default: 4]";
 
@@ -190,12 +216,19 @@ Options of serve:
       --log <WORD>             Lines of which clients: refused, all or none [default: refused]
       --log-format <WORD>      As what, text or json [default: text]
       --metrics-port <PORT>    A port for /metrics alone, 1 to 65535 [default: at --port]
+      --api-port <PORT>        The port of backends, 1 to 65535 [default: none]
+      --api-listen <ADDRESS>   The address of the port of backends [default: 127.0.0.1]
+      --api-keys <FILE>        Keys that backends show
       --peer <NAME=HOST:PORT>  Another node to link to, as b=10.0.0.2:4001
+      --peers <HOST:PORT>      The nodes behind a name, to link to [default: none]
       --link-port <PORT>       The port of links, 1 to 65535 [default: 4001 with --peer, or none]
       --link-listen <ADDRESS>  The address of the port of links [default: 127.0.0.1]
       --link-from <ADDRESS>    Where links may come from; up to 64 times [default: anywhere]
       --link-version <NUMBER>  Up to which version links are spoken, 1 or 2 [default: 2]
       --link-keys <FILE>       Keys that nodes show one another [default: they show none]
+      --state <FILE>           A file that keeps which life this is [default: none]
+      --shouts-across          Shouts go to the clients of linked nodes too
+      --link-shouts <NUMBER>   Shouts a second that links may bring, 1 to 1000000 [default: 20000]
       --phoenix                The same as --fractions, --match-joins and --event '*'
       --match-joins            Answer what comes under an earlier join as not joined
       --event <NAME>           An event of clients' own, to all who joined; up to 64 times
@@ -309,13 +342,14 @@ pub(crate) const SERVE_TAKES: &str =
 4611686018427387904, up to 64 times --route PATTERN, a topic or the front of topics with one *
 behind it, of 1 to 255 bytes, --port PORT, --link-port PORT and --metrics-port PORT, 1 to 65535,
 --shards NUMBER, 1 to 4, --workers NUMBER, 1 to 64, --link-version NUMBER, 1 or 2, --peer
-NAME=HOST:PORT, as often as one likes, --listen ADDRESS, --link-listen ADDRESS, up to 64 times
+NAME=HOST:PORT, as often as one likes, --peers HOST:PORT, --listen ADDRESS, --link-listen ADDRESS, up to 64 times
 --link-from ADDRESS, up to 16 times --proxy ADDRESS, up to 64 times --origin ORIGIN, scheme://host
 or scheme://host:port, --per-address NUMBER, 1 to 65536, --handshakes NUMBER, 1 to 1000, --memory
 MB, 32 to 16777216, --topic-rows NUMBER, 1 to 1048576, --topic-bytes NUMBER, 1024 to 1073741824,
 --grace SECONDS, 0 to 3600, --log refused, all or none, --log-format text or json, --phoenix,
 --fractions, --match-joins, up to 64 times each --event NAME, --answered NAME and --to-others NAME,
-of 1 to 64 bytes, --token-keys FILE and --link-keys FILE;";
+of 1 to 64 bytes, --token-keys FILE, --link-keys FILE, --state FILE, --shouts-across, --link-shouts
+NUMBER, 1 to 1000000, --api-port PORT, 1 to 65535, --api-listen ADDRESS and --api-keys FILE;";
 
 pub(crate) const TOKEN_TAKES: &str =
     "token takes --key FILE, --sub NAME, up to 64 times --topics PATTERN, a topic or the front of

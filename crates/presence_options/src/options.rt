@@ -1,7 +1,8 @@
 //! Options.
-ghost use Rattle.std.specs.Prelude.{◌<◌, ◌≤◌, vec_len};
+ghost use Rattle.std.specs.Prelude.{◌<◌, ◌≤◌, is_some, vec_len};
 ghost use Rattle.std.specs.Option.{ForSome};
 ghost use Rattle.presence_base.specs.Refs.{IsCount};
+ghost use Rattle.presence_options.specs.Seats.{seats_in};
 ghost use Rattle.presence_base.specs.declared.names.TheConstants.{MAX_SHARDS};
 ghost use Rattle.presence_options.specs.declared.options.TheConstants.{MAX_LINK_FROM, MAX_LINK_VERSION, MAX_ORIGINS, MAX_PROXIES, MAX_WORKERS};
 
@@ -153,13 +154,37 @@ pub struct ClientOptions {
     pub to_others: Vec<Text>,
 }
 
+/// A name whose addresses are those of other nodes, and their port of links.
+#[derive(Debug, Drop)]
+pub struct SoughtOption {
+    pub host: String,
+    pub port: u16,
+}
+
+/// The most shouts a second that links may be allowed to bring.
+pub const MAX_LINK_SHOUTS: u64 = 1_000_000;
+
+/// The shouts a second that links may bring, where nothing else is asked for.
+pub const LINK_SHOUTS: u32 = 20_000;
+
+/// Where backends are answered, and the file of the keys that they show.
+#[derive(Debug, Drop)]
+pub struct ApiOptions {
+    pub port: u16,
+    pub listen: String,
+    pub keys: String,
+}
+
 /// What `serve` runs as: the node and its routes as those of `stdio`, the ports of its clients and of
 /// links, from 1 on, of which that of links may be none, how many shards and workers there are, up to which version links
 /// are spoken, the nodes that are linked to, the addresses of both ports, and the origins whose pages may connect, or none
 /// where those of any may. Without an incarnation the node takes that of the clock. How many clients one address may have
 /// at once, and how many handshakes a second, are left to the server where they are none. Links come from any address where
 /// `link_from` is none. What `proxies` tell of their clients' addresses is believed. Clients show tokens that are signed under
-/// a key of the file `token_keys`, and nodes that they have one of `link_keys`, or nothing where there is no such file.
+/// a key of the file `token_keys`, and nodes that they have one of `link_keys`, or nothing where there is no such file. The file
+/// `state` keeps the node's last incarnation. Where `shouts_across` is, shouts go to the clients of linked nodes too, and all
+/// links together bring at most `link_shouts` a second. Backends are answered where there is an `api`. The nodes behind `sought`
+/// are linked to as well.
 #[derive(Debug, Drop)]
 pub struct ServeOptions {
     pub name: NodeName,
@@ -183,12 +208,18 @@ pub struct ServeOptions {
     pub clients: ClientOptions,
     pub token_keys: Option<String>,
     pub link_keys: Option<String>,
+    pub state: Option<String>,
+    pub api: Option<ApiOptions>,
+    pub shouts_across: bool,
+    pub link_shouts: u32,
+    pub sought: Option<SoughtOption>,
     ghost is_count: { ForSome incarnation IsCount },
     ghost few_origins: { vec_len origins ≤ MAX_ORIGINS },
     ghost few_proxies: { vec_len proxies ≤ MAX_PROXIES },
     ghost few_link_from: { vec_len link_from ≤ MAX_LINK_FROM },
     ghost some_shards: { (0 < shards) × (shards ≤ MAX_SHARDS) },
     ghost some_workers: { (0 < workers) × (workers ≤ MAX_WORKERS) },
+    ghost few_seats: { seats_in workers (is_some api) ≤ MAX_WORKERS },
     ghost some_version: { (0 < link_version) × (link_version ≤ MAX_LINK_VERSION) },
 }
 

@@ -1,7 +1,8 @@
 //! The options of `token`.
 ghost use Rattle.std.specs.Prelude.{◌≡◌, ◌+◌, ◌≤◌, ◌*◌, IfErr, IfOk, None, OnOk, Some, map, option_map, string_bytes};
 ghost use Rattle.clap.specs.Words.{all_of, first_of, found_of, rows_of};
-ghost use Rattle.presence_options.specs.Given.{AreTopicPatterns, IsFor, IsToken, IsTokenWrong, key_given, time_from, time_in, topics_given, unit_in};
+ghost use Rattle.presence_options.specs.Given.{AreTopicPatterns, IsFor, IsToken, IsTokenWrong, key_given, topics_given};
+ghost use Rattle.presence_options.specs.Times.{time_from, time_in, unit_in};
 ghost use Rattle.presence_options.specs.declared.options.TheConstants.{MAX_LASTS};
 
 use crate::fault::{UsageCause, UsageFault};

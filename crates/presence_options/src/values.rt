@@ -304,8 +304,8 @@ pub(crate) fn routes_of(
     numbered_routes(alloc, option, patterns)
 }
 
-// The host and the port that a text is, cut at its last `:`.
-fn address_in(text: &str) -> Option<(&str, u16)>
+/// The host and the port that a text is, cut at its last `:`.
+pub(crate) fn address_in(text: &str) -> Option<(&str, u16)>
     ensures { IsAddressIn text.now (option_map (λ p. (p.0.now, p.1)) result) }
 {
     let Some((host, port)) = text.rsplit_once(':') else {

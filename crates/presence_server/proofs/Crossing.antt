@@ -25,7 +25,9 @@ use Rattle.node_log.specs.contracts.log.Log as Log
 use Rattle.serve_rations.specs.contracts.budgets.TopicBudgets as TopicBudgets
 use Rattle.serve_rations.specs.contracts.memory.MemoryMark as MemoryMark
 use Rattle.serve_rations.specs.contracts.rations.Rations as Rations
+use Rattle.presence_server.specs.contracts.barred.Barred as Barred
 use Rattle.presence_server.specs.contracts.bench.Bench as Bench
+use Rattle.presence_server.specs.contracts.desk.Desk as Desk
 use Rattle.presence_server.specs.contracts.draining.Drain as Drain
 use Rattle.presence_server.specs.contracts.ends.Ends as Ends
 use Rattle.presence_server.specs.contracts.growth.Growth as Growth
@@ -33,15 +35,30 @@ use Rattle.presence_server.specs.contracts.key_ring.KeyRing as KeyRing
 use Rattle.presence_server.specs.contracts.key_ring.OwnKeys as OwnKeys
 use Rattle.presence_server.specs.contracts.letting_go.Farewell as Farewell
 use Rattle.hmac_keys.proofs.Crossing.{key_send, key_sync}
+use Rattle.presence_server.specs.contracts.putting_out.Orders as Orders
+use Rattle.presence_server.specs.contracts.putting_out.PutOut as PutOut
 use Rattle.presence_server.specs.contracts.received.Received as Received
+use Rattle.presence_server.specs.contracts.place.Post as Post
 use Rattle.presence_server.specs.contracts.place.Workplace as Workplace
 use Rattle.presence_server.specs.contracts.server.WorkerMailbox as WorkerMailbox
 pub use Rattle.link_threads.proofs.Crossing.{links_sync, task_row_send}
 
 -- ---- what is shared
 
+put_out_send : IsSend (PutOut.the_field).row
+put_out_send = search (heap.crosses, sendable) depth 60 fits 20000
+
+put_out_sync : IsSync (PutOut.the_field).row
+put_out_sync = search (heap.crosses, sendable) depth 60 fits 20000
+
+orders_sync : IsSync (Orders.the_field).row
+orders_sync = search (put_out_send, put_out_sync, heap.crosses, sendable) depth 60 fits 20000
+
 pub mailbox_sync : IsSync (WorkerMailbox.the_field).row
-mailbox_sync = search (maps.crosses, heap.crosses, sendable) depth 60 fits 20000
+mailbox_sync = search (orders_sync, maps.crosses, heap.crosses, sendable) depth 60 fits 20000
+
+pub barred_sync : IsSync (Barred.the_field).row
+barred_sync = search (heap.crosses, sendable) depth 60 fits 20000
 
 pub routes_sync : IsSync (Routes.the_field).row
 routes_sync = search (maps.crosses, heap.crosses, sendable) depth 60 fits 20000
@@ -183,8 +200,14 @@ module _ (L A B C D : RattleType) (lanes : Lanes.Ghosts L.Denot A.Denot B.Denot 
     ),
   )
 
+  desk_send : IsSend (Desk.the_field L A B C D lanes lane-a a lane-b b lane-c c lane-d d).row
+  desk_send = search (seat_send, watch_send, key_send, key_sync, heap.crosses, sendable) depth 60 fits 20000
+
+  post_send : IsSend (Post.the_field L A B C D lanes lane-a a lane-b b lane-c c lane-d d).row
+  post_send = search (bench_send, desk_send, sendable) depth 60 fits 20000
+
   pub place_send : IsSend (Workplace.the_field L A B C D lanes lane-a a lane-b b lane-c c lane-d d).row
-  place_send = search (bench_send, sendable) depth 60 fits 20000
+  place_send = search (post_send, sendable) depth 60 fits 20000
 
   pub place_row_send : IsSend (Workplace.the_row L A B C D lanes lane-a a lane-b b lane-c c lane-d d)
-  place_row_send = search (bench_send, sendable) depth 60 fits 20000
+  place_row_send = search (post_send, sendable) depth 60 fits 20000

@@ -7,6 +7,7 @@ use crate::following::{add_newcomers, followed_by, followers_of, joined_topics, 
 use crate::growth::Growth;
 use crate::key_ring::OwnKeys;
 use crate::letting_go::Farewell;
+use crate::putting_out::Taken;
 use crate::received::Received;
 use crate::server::Server;
 use crate::turn_ports::{Served, port_at, served_by};
@@ -330,6 +331,15 @@ impl<L: Lanes> Bench<L> {
             .counts
             .began(self.worker.len().saturating_sub(served));
         watch_from(&self.watch, &self.worker, served);
+        let barred = &server.barred;
+        barred.turn_away(rt, &mut self.worker, served, self.now);
+    }
+
+    // Takes the orders to put clients out, whose sessions end with the next turn.
+    fn put_out<R: Wait, H>(&mut self, rt: &R, server: &Server<'_, H, L>, own: usize) -> Taken {
+        let mailbox = server.mailboxes.get(own);
+        let worker = &mut self.worker;
+        Taken::of(rt, server.alloc, mailbox, worker, &self.rations)
     }
 
     // Looks at what the workers and the links told, all of it at once. What clients were told in this turn goes out before
@@ -370,7 +380,11 @@ impl<L: Lanes> Bench<L> {
         let Served {
             noted,
             has_made_room,
+            shouts,
         } = served;
+        if shouts > 0 {
+            server.links.has_shouted(rt, shouts);
+        }
         self.turns = self.turns.wrapping_add(1);
         if has_made_room {
             server.counts.made(Checkpoint::Full);
@@ -477,7 +491,9 @@ impl<L: Lanes> Bench<L> {
         let wants_memory = server.memory.is_tight() || server.memory.is_lacking(self.now);
         let is_tight = wants_memory && self.drain.has_rested(self.now);
         if self.drain.looks_at(self.now) && is_due(rt, server, is_tight) {
-            self.drain.lead(is_tight);
+            let awaits_others = server.links.shouts().is_some();
+            self.drain.lead(is_tight, awaits_others);
+            server.links.close_to_shouts(false);
             count_anew(server);
             set_draining(server, true);
         }
@@ -507,13 +523,32 @@ impl<L: Lanes> Bench<L> {
         server.look();
     }
 
+    // Whether other nodes are still waited for, which are told what was shouted here, and whose shouts are taken meanwhile. Once
+    // they aren't, what waits is delivered, and no further one is taken.
+    fn awaits_others<H>(&mut self, server: &Server<'_, H, L>) -> bool {
+        if !self.drain.awaits_others() {
+            return false;
+        }
+        let were_told = have_all_delivered(server) && server.links.were_told();
+        if were_told || self.drain.is_over(self.now) {
+            server.links.leave_behind();
+            server.links.close_to_shouts(true);
+            self.drain.go_on(self.now);
+            count_anew(server);
+        }
+        true
+    }
+
     // The checkpoints that are due, if this worker is the one that makes them: once no worker reads, and what waited was
     // delivered. Where nothing waits nobody is owed anything behind them. Where that was waited for too long, the workers read
     // again once each has delivered the fresh states, since a subscriber that is owed one is told of nothing that comes before
     // it. Neither is waited for without end.
     fn make_checkpoints<R: Wait, H>(&mut self, rt: &R, server: &Server<'_, H, L>) {
+        if !self.drain.leads() || self.awaits_others(server) {
+            return;
+        }
         let is_over = self.drain.is_over(self.now);
-        if !self.drain.leads() || !have_all_delivered(server) && !is_over {
+        if !have_all_delivered(server) && !is_over {
             return;
         }
         if let Some(due) = self.drain.made() {
@@ -566,7 +601,7 @@ impl<L: Lanes> Bench<L> {
     }
 
     // Counts the sessions that have ended, whose connections the worker gives up with its next flush, and waits for the
-    // clients that were told so: the place of the first of them.
+    // clients that were told so: the place of the first of them. Those that were put out are told now.
     fn see_off(&mut self, counts: &Counts) -> usize {
         let first = self.leavers.len();
         for place in 0..self.worker.len() {
@@ -579,6 +614,8 @@ impl<L: Lanes> Bench<L> {
                 self.received.see_off(client);
                 self.leavers
                     .admit(client, &self.watch, self.now, self.farewell.is_on());
+                let token = client.token;
+                self.worker.see_out(token);
             }
         }
         first
@@ -738,12 +775,14 @@ impl<L: Lanes> Bench<L> {
         self.keys.look(rt, &server.keys);
         self.take_in(rt, server);
         self.let_go(server);
+        let orders = self.put_out(rt, server, own);
         if self.is_draining(server, own) {
             self.drain(rt, server, own);
         } else {
             self.look_at_journals(rt, server);
             self.go_on(rt, server, own);
         }
+        orders.end();
         self.leavers.turn(self.now);
         self.ends.tell(rt, &server.log);
         self.pause(rt);

@@ -712,8 +712,8 @@ impl Door {
         rt: &R,
         server: &Server<'_, H, L>,
     ) {
-        let peers = server.links.tallies().peers;
-        self.room.files = client_files(rt, self.files_taken(), peers);
+        let pairs = server.links.link_pairs();
+        self.room.files = client_files(rt, self.files_taken(), pairs);
         for _ in rt.forever() {
             if server.is_stopped() {
                 break;

@@ -14,8 +14,8 @@ use std::sync::atomic::Ordering;
 /// The journals are looked at once in so long, in milliseconds.
 const LOOK_MILLISECONDS: u64 = 5;
 
-/// So long nothing is read at most before a checkpoint is made though something waits, in milliseconds, and so long at most
-/// behind such a one, until the fresh states were delivered.
+/// So long nothing is read at most before a checkpoint is made though something waits, in milliseconds, so long at most before that
+/// while other nodes are told what was shouted, and so long at most behind such a one, until the fresh states were delivered.
 const MAX_DRAIN_MILLISECONDS: u64 = 100;
 
 /// When a worker has ended so many turns that read nothing, one of them was begun since they are counted.
@@ -44,6 +44,8 @@ pub(crate) struct Drain {
     leads: bool,
     /// Whether it makes those too that are due since memory is tight.
     is_tight: bool,
+    /// Whether other nodes are waited for, which are to be told first what was shouted here.
+    awaits_others: bool,
     /// What came of the checkpoints that it made, while their fresh states are delivered.
     made: Option<Due>,
     /// The memory that it holds back, which nothing is written to.
@@ -84,6 +86,7 @@ impl Drain {
             rests: 0,
             leads: false,
             is_tight: false,
+            awaits_others: false,
             made: None,
             reserve: Vec::new(alloc),
         }
@@ -125,10 +128,22 @@ impl Drain {
         now >= self.rests
     }
 
-    /// It makes the checkpoint that is due, where memory is tight or isn't.
-    pub fn lead(&mut self, is_tight: bool) {
+    /// It makes the checkpoint that is due, where memory is tight or isn't, and other nodes are waited for or aren't.
+    pub fn lead(&mut self, is_tight: bool, awaits_others: bool) {
         self.leads = true;
         self.is_tight = is_tight;
+        self.awaits_others = awaits_others;
+    }
+
+    /// Whether other nodes are waited for.
+    pub fn awaits_others(&self) -> bool {
+        self.awaits_others
+    }
+
+    /// They aren't any more: from this time on it is waited until nothing waits here.
+    pub fn go_on(&mut self, now: u64) {
+        self.awaits_others = false;
+        self.since = Some(now);
     }
 
     /// Whether it makes those too that are due since memory is tight.
@@ -160,6 +175,7 @@ impl Drain {
         self.since = None;
         self.leads = false;
         self.is_tight = false;
+        self.awaits_others = false;
         self.made = None;
     }
 

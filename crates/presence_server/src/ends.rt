@@ -27,6 +27,7 @@ pub(crate) fn ended_by(cause: Cause) -> Ended {
 // What standard error calls the end of a session, whose client was cut off or wasn't.
 fn reason_of(cause: Cause, is_given_up: bool) -> Reason {
     match ended_by(cause) {
+        Ended::Normal if cause == Cause::PutOut => Reason::PutOut,
         Ended::Normal => Reason::Silent,
         Ended::Away => Reason::Stopped,
         Ended::Unsupported => Reason::Binary,

@@ -49,6 +49,13 @@ impl KeyRing {
         })
     }
 
+    /// Whether clients sign in.
+    pub(crate) fn is_some(&self) -> bool
+        ensures { result ≡ is_some self.now.keys }
+    {
+        self.keys.is_some()
+    }
+
     /// From now on clients sign in under these keys, if they have to.
     pub fn replace<R: Wait>(&self, rt: &R, keys: Arc<Keys, Global>) {
         if let Some(ring) = &self.keys {

@@ -3,6 +3,7 @@ ghost use Rattle.std.specs.Prelude.{◌<◌};
 
 use crate::reasons::{given_up_by, told_of};
 use crate::server::Server;
+use crate::shout_numbers::add_shouts;
 use link_streams::time_behind;
 use link_threads::Links;
 use node_system::{max_files, open_files, resident_bytes};
@@ -52,8 +53,8 @@ fn shards_of<R: Wait, H, L: Lanes>(
 }
 
 // What the links have counted.
-fn links_of(links: &Links) -> LinksTold {
-    let tallies = links.tallies();
+fn links_of<R: Wait>(rt: &R, links: &Links) -> LinksTold {
+    let tallies = links.tallies(rt);
     LinksTold {
         up: tallies.up,
         came_up: tallies.came_up,
@@ -83,9 +84,10 @@ fn process_of<R: Files, H, L: Lanes>(rt: &R, server: &Server<'_, H, L>) -> Proce
 impl<'a, 'b, R: Wait + Clock + Files + Eprint, H, L: Lanes> Tells for Pulse<'a, 'b, R, H, L> {
     fn metrics(&self, alloc: Global) -> Result<String, AllocError> {
         let shards = shards_of(alloc, self.rt, self.server)?;
-        let links = links_of(&self.server.links);
+        let links = links_of(self.rt, &self.server.links);
         let process = process_of(self.rt, self.server);
-        metrics_text(alloc, &self.server.counts.told(), &shards, &links, &process)
+        let text = metrics_text(alloc, &self.server.counts.told(), &shards, &links, &process)?;
+        add_shouts(self.rt, alloc, text, self.server.links.shouts())
     }
 
     fn wellness(&self) -> Wellness {

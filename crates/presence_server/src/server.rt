@@ -1,21 +1,25 @@
 //! What the threads of the server share.
 ghost use Rattle.std.specs.Prelude.{◌≡◌};
 
+use crate::barred::Barred;
 use crate::door::Door;
 use crate::key_ring::KeyRing;
-use crate::place::Workplace;
+use crate::place::{Post, Workplace};
+use crate::putting_out::Orders;
+use crate::shouts_in::without_sender;
 use client_settings::Settings;
 use hook_registry::{PresenceHooks, Routes};
 use link_threads::{LinkRuntime, LinkTask, Links, Wakes};
 use node_log::Log;
 use node_system::Bell;
 use node_threads::Crew;
+use presence_journal::Payload;
 use serve_grace::Grace;
 use serve_metrics::Counts;
 use serve_ports::{Followed, Inbox, Topics};
 use serve_rations::{MemoryMark, TopicBudgets};
 use shard_pool::{Lanes, NoGate, Pool};
-use std::alloc::Global;
+use std::alloc::{AllocError, Global};
 use std::net::IpAddr;
 use std::rt::Files;
 use std::sync::atomic::{AtomicBool, AtomicU64, Ordering};
@@ -28,6 +32,8 @@ pub struct WorkerMailbox {
     pub looks: AtomicBool,
     /// How many turns that read nothing the worker has ended since they are counted.
     pub drained: AtomicU64,
+    /// Whom it is to put out.
+    pub orders: Orders,
     pub bell: Bell,
 }
 
@@ -37,11 +43,13 @@ impl Drop for WorkerMailbox {
             inbox,
             looks,
             drained,
+            orders,
             bell,
         } = self;
         drop(inbox);
         drop(looks);
         drop(drained);
+        drop(orders);
         drop(bell);
     }
 }
@@ -93,10 +101,14 @@ pub struct Server<'a, H, L: Lanes> {
     /// One of each worker, in their order.
     pub mailboxes: Vec<WorkerMailbox>,
     pub door_bell: Bell,
+    /// What wakes the thread that answers backends, where there is one.
+    pub desk_bell: Option<Bell>,
     pub links: Links,
     pub stopped: AtomicBool,
     /// Under which keys clients sign in, if they have to.
     pub keys: KeyRing,
+    /// Who isn't let in for a while.
+    pub barred: Barred,
     /// Over how long clients are let go before the server stops.
     pub grace: Grace,
     ghost all_shards: { links.shards ≡ pool.shards },
@@ -120,11 +132,14 @@ impl<'a, H, L: Lanes> Drop for Server<'a, H, L> {
             counts,
             mailboxes,
             door_bell,
+            desk_bell,
             links,
             stopped,
             keys,
+            barred,
             grace,
         } = self;
+        drop(desk_bell);
         drop(pool);
         drop(budgets);
         drop(memory);
@@ -135,6 +150,7 @@ impl<'a, H, L: Lanes> Drop for Server<'a, H, L> {
         drop(links);
         drop(stopped);
         drop(keys);
+        drop(barred);
         drop(grace);
     }
 }
@@ -196,11 +212,14 @@ impl<'a, H, L: Lanes> Server<'a, H, L> {
             counts,
             mailboxes,
             door_bell,
+            desk_bell,
             links,
             stopped,
             keys,
+            barred,
             grace,
         } = self;
+        drop(desk_bell);
         drop(budgets);
         drop(memory);
         drop(log);
@@ -210,6 +229,7 @@ impl<'a, H, L: Lanes> Server<'a, H, L> {
         drop(links);
         drop(stopped);
         drop(keys);
+        drop(barred);
         drop(grace);
         pool
     }
@@ -220,6 +240,28 @@ impl<'a, H, L: Lanes> Wakes for Server<'a, H, L> {
         for mailbox in self.mailboxes.iter() {
             mailbox.look();
         }
+    }
+
+    fn tell_of<R: Wait>(&self, rt: &R, topics: &Arc<Topics>) {
+        self.tell(rt, usize::MAX, topics);
+    }
+
+    fn of_another(&self, alloc: Global, payload: &Payload) -> Result<Option<Payload>, AllocError> {
+        if self.settings.events.is_none() {
+            return Ok(None);
+        }
+        without_sender(alloc, payload)
+    }
+
+    fn takes_shouts(&self) -> bool {
+        if self.memory.is_tight() {
+            return false;
+        }
+        !self.links.is_closed_to_shouts()
+            || !self
+                .mailboxes
+                .iter()
+                .any(|mailbox| mailbox.inbox.is_draining())
     }
 }
 
@@ -236,9 +278,16 @@ where
     type Task = LinkTask;
 
     fn work(&self, rt: &R, place: Workplace<L>) -> Workplace<L> {
-        let Workplace { number, mut bench } = place;
-        bench.work(rt, self, number);
-        Workplace { number, bench }
+        let Workplace { number, post } = place;
+        let post = match post {
+            Post::Bench(bench) => {
+                let mut bench = bench;
+                bench.work(rt, self, number);
+                Post::Bench(bench)
+            }
+            Post::Desk(desk) => Post::Desk(desk.work(rt, self)),
+        };
+        Workplace { number, post }
     }
 
     fn attend(&self, rt: &R, door: Door) {
@@ -254,6 +303,9 @@ where
         self.links.stop(rt);
         self.stopped.store(true, Ordering::SeqCst);
         self.door_bell.ring();
+        if let Some(bell) = &self.desk_bell {
+            bell.ring();
+        }
         for mailbox in self.mailboxes.iter() {
             mailbox.bell.ring();
         }

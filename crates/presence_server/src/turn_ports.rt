@@ -10,6 +10,8 @@ use std::sync::Wait;
 pub(crate) struct Served {
     pub noted: Noted,
     pub has_made_room: bool,
+    /// How many shouts were made.
+    pub shouts: u64,
 }
 
 /// The port of a worker's turn: it keeps each connection within its rations and each topic within its budget, refuses what
@@ -47,5 +49,6 @@ pub(crate) fn served_by<R: Wait, H, L: Lanes>(
     Served {
         noted: port.into_noted(),
         has_made_room,
+        shouts: tally.shouts,
     }
 }

@@ -7,7 +7,7 @@ use Rattle.phx_message.specs.declared.message.MessageFault.TheVariants as refusa
 use Rattle.tungstenite.specs.declared.error.Error.{Error}
 use Rattle.tungstenite.specs.declared.error.Error.TheVariants as errors
 use Rattle.serve_connections.specs.declared.cause.Cause.{Cause}
-use Rattle.serve_connections.specs.declared.cause.Cause.TheVariants.{Closed, Silent, Binary, Fault, Full, Stream, Stopping, Expired, Unsigned}
+use Rattle.serve_connections.specs.declared.cause.Cause.TheVariants.{Closed, Silent, Binary, Fault, Full, Stream, Stopping, Expired, Unsigned, PutOut}
 
 -- a text that is too long, and one that is no message
 abbrev pub refusal_code : MessageFault → ℕ
@@ -38,12 +38,15 @@ code_of Stream = None
 code_of Stopping = Some 1001
 code_of Expired = Some 3000
 code_of Unsigned = Some 3000
+code_of PutOut = Some 1000
 
--- What stands beside the code: who was silent is told so, and whose token is none any more, and nobody else is told more.
+-- What stands beside the code: who was silent is told so, whose token is none any more, and who was put out, and nobody else is told
+-- more.
 abbrev pub reason_of : Cause → List ℕ
 reason_of Silent = codes "silent for 60 s"
 reason_of Expired = codes "the token has expired"
 reason_of Unsigned = codes "the token is not taken"
+reason_of PutOut = codes "put out"
 reason_of _ = []
 
 -- Why a connection ends by an error of its socket. A frame over the limit is of a text that is too long, and one that isn't UTF-8 is not JSON.

@@ -13,3 +13,4 @@ pub mod Working
 pub mod Places
 pub mod Resting
 pub mod Serving
+pub mod PuttingOut

@@ -33,6 +33,8 @@ pub enum Cause {
     /// Clients sign in, and this one isn't signed in.
     #[error("the token is not taken")]
     Unsigned,
+    #[error("a backend put the client out")]
+    PutOut,
 }
 
 // The close code of a text that is no message.
@@ -70,7 +72,7 @@ pub fn close_code(cause: Cause) -> Option<CloseCode>
 {
     match cause {
         Cause::Closed | Cause::Stream => None,
-        Cause::Silent => Some(CloseCode::Normal),
+        Cause::Silent | Cause::PutOut => Some(CloseCode::Normal),
         Cause::Binary => Some(CloseCode::Unsupported),
         Cause::Fault(fault) => Some(fault_close(fault)),
         Cause::Full => Some(CloseCode::Error),
@@ -87,6 +89,7 @@ pub(crate) fn close_reason(cause: Cause) -> &'static str
         Cause::Silent => "silent for 60 s",
         Cause::Expired => "the token has expired",
         Cause::Unsigned => "the token is not taken",
+        Cause::PutOut => "put out",
         Cause::Closed
         | Cause::Stream
         | Cause::Binary

@@ -2,6 +2,7 @@
 ghost use Rattle.std.specs.Prelude.{◌≡◌};
 ghost use Rattle.serve_connections.specs.Turning.{around};
 ghost use Rattle.serve_connections.specs.Resting.{rests as rests_in};
+ghost use Rattle.serve_connections.specs.PuttingOut.{SeesOneOut, put_out_client};
 ghost use Rattle.serve_connections.specs.Working.{Delivers, SendsIf, Serves, StopsOne, has_ended, is_ending, is_over, readied, stays_ready as stays_ready_in, unreadied};
 
 use crate::connection::{Connection, Progress, Stage};
@@ -129,6 +130,23 @@ impl<S: Read + Write + Drop> Client<S> {
         ensures { self.new ≡ unreadied self.old }
     {
         self.ready = false;
+    }
+
+    /// Ends it since its client is put out: its session's end is asked for from the next turn on.
+    pub fn put_out(&mut self)
+        ensures { self.new ≡ put_out_client self.old }
+    {
+        self.connection.put_out();
+        self.ready = true;
+        self.unsent = true;
+    }
+
+    /// Tells a client that was put out so with the next flush, if its session has ended.
+    pub fn see_out(&mut self)
+        ensures { SeesOneOut S.contents self.old self.new }
+    {
+        self.connection.see_out();
+        self.unsent = true;
     }
 
     /// Ends it since the server stops: its client is told at the next flush, and its session's end is

@@ -11,6 +11,7 @@ ghost use Rattle.channel_rules.specs.Said.{Worded, Noted};
 ghost use Rattle.channel_pieces.specs.Piecewise.{Piecewise};
 ghost use Rattle.serve_connections.specs.Signed.{RunsText, leave};
 ghost use Rattle.serve_connections.specs.Sparing.{Spares};
+ghost use Rattle.serve_connections.specs.PuttingOut.{SeesOut, put_out as put_out_from};
 ghost use Rattle.serve_sockets.specs.declared.web_socket.TheConstants.{MAX_WAITING};
 
 use crate::cause::{Cause, cause_of, close_code, close_reason};
@@ -651,6 +652,24 @@ impl<S: Read + Write + Drop, K: MaskKeys + Drop> Connection<S, K> {
         if let Stage::Open = self.stage {
             self.close(Cause::Stopping);
             self.stage = Stage::Ending(Cause::Stopping);
+        }
+    }
+
+    /// Ends an open connection whose client is put out: its session's end is asked for from its next turn on.
+    pub fn put_out(&mut self)
+        ensures { self.new ≡ record self.old { stage = put_out_from self.old.stage } }
+    {
+        if let Stage::Open = self.stage {
+            self.stage = Stage::Ending(Cause::PutOut);
+        }
+    }
+
+    /// Tells a client that was put out so, once its session has ended: by a close frame, which waits to be flushed.
+    pub fn see_out(&mut self)
+        ensures { SeesOut S.contents self.old.stage self.old self.new }
+    {
+        if let Stage::Over(Cause::PutOut) = self.stage {
+            self.close(Cause::PutOut);
         }
     }
 }

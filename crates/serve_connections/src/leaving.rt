@@ -33,7 +33,8 @@ fn was_told(client: &Client<ClientSocket>, drains: bool) -> bool {
             | Cause::Fault(_)
             | Cause::Full
             | Cause::Expired
-            | Cause::Unsigned,
+            | Cause::Unsigned
+            | Cause::PutOut,
         ) => true,
         _ => false,
     }

@@ -9,7 +9,7 @@
 //! to a text then, `specs/Renewing` what is granted anew, and `specs/SigningIn` what at first; `specs/SigningLaws` has the
 //! laws of that, and `specs/Plainly` what is done where they don't sign in. `specs/Places` has which connections a worker
 //! serves, in order of their numbers, `specs/Resting` which of them have nothing to do, and `specs/Working` what a turn, a
-//! flush and a look at the queue do to them.
+//! flush and a look at the queue do to them; and `specs/PuttingOut` how clients are put out.
 //!
 //! No contract speaks of those that leave: they hold no session any more, and what is read of them is thrown away.
 //! Which of the others have a turn rests on what the system answers: `specs/Marks` says that nothing else of them

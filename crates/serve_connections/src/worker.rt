@@ -3,6 +3,7 @@ ghost use Rattle.std.specs.Prelude.{◌≡◌, ◌≤◌, ◌&&◌, [], false, f
 ghost use Rattle.crossbeam_queue.specs.Passes.{view};
 ghost use Rattle.slab.specs.Slab.{get};
 ghost use Rattle.serve_connections.specs.Turning.{around};
+ghost use Rattle.serve_connections.specs.PuttingOut.{SeesOutAt, put_out_at};
 ghost use Rattle.serve_connections.specs.declared.worker.TheConstants.{MAX_CONNECTIONS};
 ghost use Rattle.serve_connections.specs.Places.{AreKept, AreLeft, DeliversKeys, ServesKeys, kept_prop, served};
 ghost use Rattle.serve_connections.specs.Resting.{AreAtRest, FindsDue, is_noted, rest_prop, rests_at};
@@ -362,6 +363,28 @@ impl<S: Read + Write + Drop> Worker<S> {
     {
         if let Some(client) = self.clients.get_mut(token) {
             client.stop();
+            self.resting.wake(token);
+        }
+    }
+
+    /// Puts the client of this token out, if one of this worker's has it: its session's end is asked for in each turn from the
+    /// next one on, until it is accepted.
+    pub fn put_out(&mut self, token: usize)
+        ensures { served_by self.new
+            ≡ map (put_out_at token) (served_by self.old) }
+    {
+        if let Some(client) = self.clients.get_mut(token) {
+            client.put_out();
+            self.resting.wake(token);
+        }
+    }
+
+    /// Tells the client of this token so with the next flush, if it was put out and its session has ended.
+    pub fn see_out(&mut self, token: usize)
+        ensures { SeesOutAt S.contents token (served_by self.old) (served_by self.new) }
+    {
+        if let Some(client) = self.clients.get_mut(token) {
+            client.see_out();
             self.resting.wake(token);
         }
     }

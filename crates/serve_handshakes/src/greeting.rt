@@ -87,6 +87,8 @@ enum Asked {
     Whole(Reply),
     /// It is none.
     Junk,
+    /// It is dropped without an answer: that was counted.
+    Dropped,
     Ends,
 }
 
@@ -213,7 +215,8 @@ fn look_at<S: Read + Write + Drop, T: Tells, K: Keeper<S>>(
         Parsed::Junk => Asked::Junk,
         Parsed::Whole(request) => match reply_for(alloc, head, &request, party, front) {
             Ok(Some(reply)) => Asked::Whole(reply),
-            Ok(None) | Err(_) => Asked::Ends,
+            Ok(None) => Asked::Dropped,
+            Err(_) => Asked::Ends,
         },
     }
 }
@@ -409,6 +412,7 @@ impl<S: Read + Write + Drop> Greeting<S> {
             Asked::Waits => Greeting::waiting(party, Stage::Reads(head)),
             Asked::Whole(reply) => Greeting::sending(alloc, party, reply, front),
             Asked::Junk => Greeted::GivenUp(GivenUp::Junk, party.address),
+            Asked::Dropped => Greeted::GivenUp(GivenUp::Answered, party.address),
             Asked::Ends => Greeted::GivenUp(GivenUp::Failed, party.address),
         }
     }

@@ -48,4 +48,5 @@ pub use page::PAGE;
 pub use party::MAX_EMPTY_READS;
 pub use script::SCRIPT;
 pub use seating::{Admission, seated};
+pub use shown::bearer;
 pub use unsigned::Unsigned;

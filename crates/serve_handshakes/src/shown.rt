@@ -53,8 +53,8 @@ fn protocol_token(alloc: Global, carried: Option<&[u8]>) -> Result<Option<Vec<u8
     }
 }
 
-// What stands behind `Bearer`, whatever the case of its letters, and one space (RFC 6750, section 2.1).
-fn bearer(value: &[u8]) -> Option<&[u8]>
+/// What stands behind `Bearer`, whatever the case of its letters, and one space (RFC 6750, section 2.1).
+pub fn bearer(value: &[u8]) -> Option<&[u8]>
     ensures { option_map (λ v. v.now) result ≡ bearer_in value.now }
 {
     if value.len() < 7 || !same_but_for_case(&value[..7], b"Bearer ") {

@@ -24,6 +24,14 @@ is_row topic key row = same_text row.topic topic && same_text row.key key
 abbrev pub has_row : List ℕ → List ℕ → List Kept → Bool
 has_row topic key rows = list_any (is_row topic key) rows
 
+-- a row of this key, at this topic where one is named
+abbrev pub is_of_key : Option (List ℕ) → List ℕ → Kept → Bool
+is_of_key None key row = same_text row.key key
+is_of_key (Some topic) key row = is_row topic key row
+
+abbrev pub has_key : Option (List ℕ) → List ℕ → List Kept → Bool
+has_key topic key rows = list_any (is_of_key topic key) rows
+
 -- how many bytes a row leaves of so many, where they aren't this row's own
 abbrev pub left_beside : List ℕ → List ℕ → ℕ → Kept → Option ℕ
 left_beside topic key left row =

@@ -1,7 +1,7 @@
 //! The rows of one connection.
-ghost use Rattle.std.specs.Prelude.{Some, ◌≡◌, ◌++◌, [], ◌∷◌, length, leb, not, filter, take, ◌-◌, if◌then◌else◌, is_ok, IfOk};
+ghost use Rattle.std.specs.Prelude.{Some, ◌≡◌, ◌++◌, [], ◌∷◌, length, leb, not, filter, take, ◌-◌, if◌then◌else◌, is_ok, option_map, IfOk};
 ghost use Rattle.serve_rations.specs.Amounts.{nothing};
-ghost use Rattle.serve_rations.specs.Rows.{has_room as has_room_in, has_row, is_row, is_of as is_of_topic, left_beside as left_beside_in, others_fit, row_bytes as row_bytes_in, escape_bytes as escape_bytes_in, escape_byte, amount_of as amount_of_row, amount_with_key, amount_with, resized};
+ghost use Rattle.serve_rations.specs.Rows.{has_key, has_room as has_room_in, has_row, is_of_key, is_row, is_of as is_of_topic, left_beside as left_beside_in, others_fit, row_bytes as row_bytes_in, escape_bytes as escape_bytes_in, escape_byte, amount_of as amount_of_row, amount_with_key, amount_with, resized};
 ghost use Rattle.serve_rations.specs.declared.ration.TheConstants.{MAX_ROWS, MAX_ROW_BYTES};
 
 use crate::amount::Amount;
@@ -110,6 +110,16 @@ impl Kept {
         self.topic.cmp(topic).is_eq() && self.key.cmp(key).is_eq()
     }
 
+    // Whether it is a row of this key, at this topic where one is named.
+    fn is_of_key(&self, topic: Option<&Topic>, key: &Key) -> bool
+        ensures { result ≡ is_of_key (option_map (λ t. t.now) topic.entry) key.now self.now }
+    {
+        match topic {
+            Some(topic) => self.is_at(topic, key),
+            None => self.key.cmp(key).is_eq(),
+        }
+    }
+
     // How many bytes it leaves of so many, where it isn't this row itself.
     fn left_beside(&self, topic: &Topic, key: &Key, left: usize) -> Option<usize>
         ensures { result ≡ left_beside_in topic.now key.now left self.now }
@@ -153,6 +163,18 @@ impl Ration {
     {
         for row in &self.rows {
             if row.is_at(topic, key) {
+                return true;
+            }
+        }
+        false
+    }
+
+    /// Whether it has a row of this key, at this topic where one is named.
+    pub(crate) fn has_key(&self, topic: Option<&Topic>, key: &Key) -> bool
+        ensures { result ≡ has_key (option_map (λ t. t.now) topic.entry) key.now self.now.rows.items }
+    {
+        for row in &self.rows {
+            if row.is_of_key(topic, key) {
                 return true;
             }
         }

@@ -1,8 +1,8 @@
 //! The rows of each connection of a worker.
-ghost use Rattle.std.specs.Prelude.{◌≡◌, ◌++◌, [], ◌∷◌, false, filter, not, OnOk, OnErr};
+ghost use Rattle.std.specs.Prelude.{◌≡◌, ◌++◌, [], ◌∷◌, false, filter, not, option_map, OnOk, OnErr};
 ghost use Rattle.serve_rations.specs.Amounts.{nothing};
 ghost use Rattle.serve_rations.specs.Connections.{IsNow, SameRows, all_but_last, rows_of, kept};
-ghost use Rattle.serve_rations.specs.Rows.{has_row as has_row_in, has_room as has_room_in, is_row, is_of, resized, amount_with};
+ghost use Rattle.serve_rations.specs.Rows.{has_key as has_key_in, has_row as has_row_in, has_room as has_room_in, is_row, is_of, resized, amount_with};
 
 use crate::amount::Amount;
 use crate::ration::{Kept, MAX_ROW_BYTES, Ration};
@@ -43,6 +43,16 @@ impl Rations {
     {
         match self.connections.get(&pid) {
             Some(ration) => ration.has(topic, key),
+            None => false,
+        }
+    }
+
+    /// Whether the connection has a row of this key, at this topic where one is named.
+    pub fn has_key(&self, pid: u64, topic: Option<&Topic>, key: &Key) -> bool
+        ensures { result ≡ has_key_in (option_map (λ t. t.now) topic.entry) key.now (rows_of self.now pid) }
+    {
+        match self.connections.get(&pid) {
+            Some(ration) => ration.has_key(topic, key),
             None => false,
         }
     }

@@ -11,3 +11,4 @@ pub mod Seats
 pub mod Calls
 pub mod Codes
 pub mod Settling
+pub mod Paged

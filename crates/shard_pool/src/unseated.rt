@@ -10,8 +10,10 @@ ghost use Rattle.presence_journal_cuts.specs.ToldParts.{IsPartWhereItFits};
 ghost use Rattle.tracker_shard.specs.declared.fault.ShardFault.TheVariants.{OutOfMemory};
 ghost use Rattle.tracker_shard.specs.Asks.{TellsWaiting};
 ghost use Rattle.shard_pool.specs.Unseated.{IsOf, IsBehind, IsDone, IsMade, IsCutMade, IsCheckpointed, IsMadeWhereQuiet, IsRebornMade};
-ghost use Rattle.shard_pool.specs.Seats.{shard_of, IsBehindAt, IsTrimmed};
+ghost use Rattle.shard_pool.specs.Seats.{shard_of, IsBehindAt, IsOfShardAt, IsTrimmed};
+ghost use Rattle.topic_pages.specs.Pages.{after_of};
 ghost use Rattle.shard_pool.specs.Lines.{IsOfLane};
+ghost use Rattle.shard_pool.specs.Paged.{IsPaged};
 
 use crate::due::DueFrom;
 use crate::gate::Gate;
@@ -30,11 +32,12 @@ use presence_journal::{Journal, Pairs, Step};
 use replica_status::Status;
 use std::alloc::Global;
 use std::sync::Wait;
+use topic_pages::{Page, PageOf, joined};
 use tracker_index::RowCounts;
 use tracker_shard::{
     Ask, Call, CopyOfJournal, CountOfRows, Cut, EntryCount, Fitting, Full, Heard, Incarnation,
     KeptBytes, ListBytes, MergeCopy, PartFrom, PermDown, Rebirth, StartNumber, StatusOf, Sub, Tick,
-    ToldFrom, TopOf, WaitsFor,
+    ToldFrom, TopOf, TopicsOf, WaitsFor,
 };
 
 // A call at the shard of a number, whose lock it names.
@@ -386,6 +389,25 @@ impl<G: Gate, L: Lanes> Pool<G, L> {
         requires { shard < self.now.shards }
     {
         self.ask(rt, shard, &CountOfRows)
+    }
+
+    /// A page of the topics of all shards, as `Shard::topics` tells each of them. It is no step: each shard is asked in turn, and is
+    /// locked for as long as that takes. It refuses with `OutOfMemory` alone.
+    pub fn topics<R: Wait>(
+        &self,
+        rt: &R,
+        alloc: Global,
+        page: PageOf<'_>,
+    ) -> Result<Page, PoolFault>
+        ensures page { IfOk result (IsPaged (IsOfShardAt self.now.own.name L.begins) self.now.shards (after_of page.entry) page.entry.limit) }
+        ensures err { IfErr result (λ e. e ≡ OutOfMemory) }
+    {
+        let mut all = Page::new(alloc);
+        for shard in 0..self.shards {
+            let found = self.ask(rt, shard, &TopicsOf { alloc, page })?;
+            all = joined(alloc, &all, &found, page.limit)?;
+        }
+        Ok(all)
     }
 
     /// The number of the Start of a shard's journal. It is no step.

@@ -127,6 +127,14 @@ impl Grant {
     {
         self.lets_join(now, topic) && self.claims.talks
     }
+
+    /// Whether this is its subject.
+    pub fn is_of(&self, key: &Key) -> bool
+        ensures { result ≡ is_subject_of (granted_by self.now.claims).subject key.now }
+    {
+        is_subject(&self.claims, key)
+    }
+
     /// Whether both are of the same subject, if they are of one.
     pub fn has_subject_of(&self, other: &Grant) -> bool
         ensures { result ≡ same_subject (granted_by self.now.claims).subject (granted_by other.now.claims).subject }

@@ -5,3 +5,4 @@ pub mod Laws
 pub mod Rings
 pub mod Listed
 pub mod Quiet
+pub mod Paging

@@ -6,6 +6,8 @@ ghost use Rattle.tracker_feeds.specs.Laws.{AreNewcomers, IsBegun};
 ghost use Rattle.tracker_feeds.specs.Listed.{AreListed, AreCurrent, is_served, served_in};
 ghost use Rattle.tracker_feeds.specs.Quiet.{TellsIdle};
 ghost use Rattle.tracker_feeds.specs.Rings.{shared};
+ghost use Rattle.topic_pages.specs.Pages.{IsPage, after_of};
+ghost use Rattle.tracker_feeds.specs.Paging.{fed_tally};
 
 use crate::followers::{
     Follower, add_follower, are_idle, drop_follower, is_awaited, items_waiting, move_follower,
@@ -18,7 +20,9 @@ use presence_journal_lists::{Numbers, Subscribers};
 use std::alloc::{AllocError, Global};
 use std::collections::BTreeMap;
 use std::marker::Model;
+use std::ops::Bound;
 use std::sync::Arc;
+use topic_pages::{Page, PageOf, Paging};
 
 /// The subscribers of a shard and what waits for them.
 pub struct Feeds {
@@ -71,6 +75,24 @@ impl Feeds {
     /// How many topics have a subscriber. No contract speaks of it. Takes no memory.
     pub fn topics(&self) -> u64 {
         self.rings.len() as u64
+    }
+
+    /// A page of the topics that have subscribers, with how many each has. It costs a look at each of them.
+    pub fn page(&self, alloc: Global, page: PageOf<'_>) -> Result<Page, AllocError>
+        ensures { IfOk result (IsPage (fed_tally self.now) (after_of page.entry) page.entry.limit) }
+    {
+        let start = match page.after {
+            Some(topic) => Bound::Excluded(topic),
+            None => Bound::Unbounded,
+        };
+        let mut paging = Paging::new(alloc, page.limit);
+        for (topic, ring) in self.rings.range((start, Bound::Unbounded)) {
+            if !paging.takes(topic) {
+                return Ok(paging.into_page(true));
+            }
+            paging.add(topic, 0, ring.followers)?;
+        }
+        Ok(paging.into_page(false))
     }
 
     // Subscribers that are each owed the state of its topic.

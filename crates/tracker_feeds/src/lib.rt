@@ -3,7 +3,8 @@
 //!
 //! Its public contracts cite `specs/Fed`: what is seen of each subscriber, and when that is what a history says;
 //! and `specs/Making`, on it and on tracker_shown's `Turns`: what an entry makes for the topics that are followed.
-//! `specs/Laws` says how feeds follow a history from entry to entry, and `specs/Listed` what a Start lists of them.
+//! `specs/Laws` says how feeds follow a history from entry to entry, `specs/Listed` what a Start lists of them,
+//! and `specs/Paging` how many of them topics have.
 #![tactic(auto)]
 
 mod copies;

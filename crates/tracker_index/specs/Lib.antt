@@ -3,3 +3,4 @@ pub mod Codes
 pub mod Parts
 pub mod Starting
 pub mod Resuming
+pub mod Paging

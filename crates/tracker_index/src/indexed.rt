@@ -20,6 +20,7 @@ use presence_journal_walks::{walk_topic, walk_waits};
 use replica_status::Status;
 use std::alloc::{AllocError, Global};
 use std::marker::Model;
+use topic_pages::{Page, PageOf, joined};
 
 /// How many rows a shard shows, and on how many topics somebody looks at them.
 #[derive(Clone, Copy, Debug, PartialEq, Eq)]
@@ -101,6 +102,8 @@ impl Indexed {
     ghost use Rattle.tracker_index.specs.Starting.{IsBegunAgain, LeavesQueues};
     ghost use Rattle.tracker_feeds.specs.Quiet.{TellsQuiet};
     ghost use Rattle.tracker_known.specs.Known.{next_left};
+    ghost use Rattle.tracker_index.specs.Paging.{IsTopicPage};
+    ghost use Rattle.topic_pages.specs.Pages.{after_of};
 
     /// An empty journal of the replica.
     pub fn new(alloc: Global, own: Replica) -> Indexed
@@ -277,6 +280,16 @@ impl Indexed {
         ensures same { self.new ≡ self.old }
     {
         self.parts.shown.state(alloc, topic)
+    }
+
+    /// A page of the topics that have rows or subscribers, with how many each has. It costs a look at each of these rows and topics.
+    pub fn topics(&self, alloc: Global, page: PageOf<'_>) -> Result<Page, AllocError>
+        requires { self.now.is_ready ≡ true }
+        ensures { IfOk result (IsTopicPage self.now.history (after_of page.entry) page.entry.limit) }
+    {
+        let rows = self.parts.shown.page(alloc, page)?;
+        let subscribers = self.parts.feeds.page(alloc, page)?;
+        joined(alloc, &rows, &subscribers, page.limit)
     }
 
     /// The present rows of a key.

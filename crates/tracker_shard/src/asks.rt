@@ -6,6 +6,8 @@ ghost use Rattle.orswot_core.specs.Checks.{WhereItFits};
 ghost use Rattle.presence_journal_known.specs.Full.{IsFullOf};
 ghost use Rattle.presence_journal_cuts.specs.KeptDeltas.{IsToldFrom, TellsFrom};
 ghost use Rattle.presence_journal_cuts.specs.ToldParts.{IsPartWhereItFits};
+ghost use Rattle.topic_pages.specs.Pages.{after_of};
+ghost use Rattle.tracker_index.specs.Paging.{IsTopicPage};
 ghost use Rattle.tracker_shard.specs.Asks.{TellsIfOk, TellsWaiting};
 
 use crate::fault::ShardFault;
@@ -16,6 +18,7 @@ use presence_base::Replica;
 use presence_journal::Journal;
 use replica_status::Status;
 use std::alloc::Global;
+use topic_pages::{Page, PageOf};
 use tracker_index::RowCounts;
 
 /// What is asked of a shard without a step.
@@ -255,5 +258,23 @@ impl Ask for ListBytes {
 
     fn read(&self, shard: &mut Shard) -> u64 {
         shard.list_bytes()
+    }
+}
+
+/// Asks for a page of the topics, as `Shard::topics` tells it. It is refused with `OutOfMemory` alone.
+#[derive(Clone, Copy)]
+pub struct TopicsOf<'a> {
+    pub alloc: Global,
+    pub page: PageOf<'a>,
+}
+
+impl Ask for TopicsOf<'_> {
+    type Answer = Result<Page, ShardFault>;
+
+    ghost tells = { λ a h r. TellsIfOk (IsTopicPage h (after_of a.page) a.page.limit) r };
+
+    fn read(&self, shard: &mut Shard) -> Result<Page, ShardFault> {
+        let page = shard.topics(self.alloc, self.page)?;
+        Ok(page)
     }
 }

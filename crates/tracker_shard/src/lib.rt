@@ -4,7 +4,7 @@
 //! Its public contracts cite `specs/Steps`: what a call answers and leaves, and when it refuses; `specs/Calls`: what it
 //! comes to before its step is made; `specs/Asks`: what is answered without a step; presence_journal's `History`,
 //! `Table`, `Present`, `Queue` and `Limits`; presence_journal_cuts' `Cuts` and `KeptDeltas`; presence_journal_known's
-//! `Full`; tracker_index's `Starting` and `Resuming`; and tracker_feeds' `Quiet`.
+//! `Full`; tracker_index's `Starting`, `Resuming` and `Paging`; and tracker_feeds' `Quiet`.
 #![tactic(auto)]
 
 mod answers;
@@ -17,7 +17,7 @@ mod shard;
 
 pub use asks::{
     Ask, CopyOfJournal, CountOfRows, EntryCount, Fitting, Full, Incarnation, KeptBytes, ListBytes,
-    PartFrom, StartNumber, StatusOf, ToldFrom, TopOf, WaitsFor,
+    PartFrom, StartNumber, StatusOf, ToldFrom, TopOf, TopicsOf, WaitsFor,
 };
 pub use call::{Call, Found, SeatCall};
 pub use calls::{

@@ -13,6 +13,7 @@ use presence_journal::{Item, Journal, Outcome, Pairs, Payload, SharedRows, Step}
 use replica_status::Status;
 use std::alloc::{AllocError, Global};
 use std::marker::Model;
+use topic_pages::{Page, PageOf};
 use tracker_index::{Indexed, RowCounts};
 
 /// A subscriber: the number of the entry that made it, which names it, and the slot where it is found.
@@ -83,6 +84,8 @@ impl Shard {
     ghost use Rattle.tracker_shard.specs.Steps.{Stepped, Answers, IsDue, RefusesForRoom, refusal, refusal_at, AnswersDot, AnswersRowsOfKey, AnswersRowsOfPid, AnswersListed, AnswersListedKey, AnswersItems, AnswersSub, is_found, checkpoint_refusal, AnswersPairs, KeepsRows};
     ghost use Rattle.tracker_index.specs.Starting.{IsBegunAgain, LeavesQueues};
     ghost use Rattle.tracker_index.specs.Resuming.{resumed};
+    ghost use Rattle.tracker_index.specs.Paging.{IsTopicPage};
+    ghost use Rattle.topic_pages.specs.Pages.{after_of};
 
     /// A shard of the replica with an empty journal.
     pub fn new(alloc: Global, own: Replica) -> Shard
@@ -638,6 +641,17 @@ impl Shard {
     /// It is no step, and takes no memory.
     pub fn row_counts(&self) -> RowCounts {
         self.table.row_counts()
+    }
+
+    /// A page of the topics that have rows or subscribers, with how many each has, in order of bytes. It is no step, and costs a
+    /// look at each of these rows and topics: a page ends behind the topic with which it has as many as it may, or
+    /// `topic_pages::MAX_ADDED` rows.
+    pub fn topics(&mut self, alloc: Global, page: PageOf<'_>) -> Result<Page, AllocError>
+        ensures same { self.new ≡ self.old }
+        ensures page { IfOk result (IsTopicPage self.old (after_of page.entry) page.entry.limit) }
+    {
+        self.table.ready(alloc)?;
+        self.table.topics(alloc, page)
     }
 
     /// Whether no item waits for a present subscriber: each is behind, or has nothing waiting. It is no step, and costs a look

@@ -6,3 +6,4 @@ pub mod Listing
 pub mod Placing
 pub mod Opening
 pub mod States
+pub mod Paging

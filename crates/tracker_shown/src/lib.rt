@@ -6,6 +6,7 @@
 //! - `specs/Kept`: what is kept of a history, and what lies between a history and the next one
 //! - `specs/ShownTurns`: how that follows the rows that join and leave
 //! - `specs/Placing`: rows of any kind, found by their places
+//! - `specs/Paging`: how many rows topics have
 //!
 //! `specs/Stands` is of the order in which rows are kept, `specs/Opening` of the rows that a journal begins with,
 //! `specs/States` of the states that are kept beside them.
@@ -16,6 +17,7 @@ mod counting;
 mod kept;
 mod listing;
 mod opening;
+mod paging;
 mod placed;
 mod shown;
 mod stand;

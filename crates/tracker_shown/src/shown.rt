@@ -6,6 +6,7 @@ use crate::counting::{is_of_own, others_after, others_among};
 use crate::kept::{is_own, put_row, row_at, take_row};
 use crate::listing::{list_key, list_topic};
 use crate::opening::put_up;
+use crate::paging::page_of;
 use crate::stand::Holder;
 use crate::states::States;
 use crate::table::Table;
@@ -14,6 +15,7 @@ use presence_base::{Dot, Key, Replica, Row, Topic};
 use presence_journal::{SharedRows, Start};
 use std::alloc::{AllocError, Global};
 use std::marker::Model;
+use topic_pages::{Page, PageOf};
 
 /// The rows that a shard shows, by topic, key and dot, and its own ones by session too. It keeps the states of topics that
 /// were asked for until a row of theirs changes.
@@ -64,10 +66,12 @@ fn shown_of(alloc: Global, table: Table, others: usize) -> Shown
 
 impl Shown {
     ghost use Rattle.std.specs.Prelude.{◌≡◌, IfOk, OnOk, OnErr, Some, None};
-    ghost use Rattle.presence_journal.specs.History.{Begin};
+    ghost use Rattle.presence_journal.specs.History.{History, Begin};
     ghost use Rattle.presence_journal.specs.Present.{listed};
     ghost use Rattle.presence_journal.specs.Table.{listed_key, rows_of_key, rows_of_pid};
     ghost use Rattle.tracker_shown.specs.Kept.{IsNothing, IsSetIn, IsPartlySetIn, IsAsShown, IsShownOf, present_at};
+    ghost use Rattle.topic_pages.specs.Pages.{IsPage, after_of};
+    ghost use Rattle.tracker_shown.specs.Paging.{shown_rows};
     ghost use Rattle.tracker_shown.specs.ShownTurns.{BringsUp, StaysBetween, IsOpenedWith};
 
     /// Where nothing is shown yet.
@@ -214,6 +218,14 @@ impl Shown {
         // Where memory is wanting it isn't kept, and the next ask lists the topic anew.
         let _kept = self.states.keep(topic, &state);
         Ok(state)
+    }
+
+    /// A page of the topics that have rows, with how many each has. It costs a look at each of these rows: no more than
+    /// `topic_pages::MAX_ADDED`, and those of the last topic.
+    pub fn page(&self, alloc: Global, page: PageOf<'_>) -> Result<Page, AllocError>
+        ensures { IfOk result (λ found. (g : History) → IsShownOf g self.now → IsPage (shown_rows g) (after_of page.entry) page.entry.limit found) }
+    {
+        page_of(alloc, &self.table.rows, page)
     }
 
     /// The present rows of a key.

@@ -1,4 +1,7 @@
 //! What standard input asks a server for.
+ghost use Rattle.std.specs.Prelude.{◌≡◌, ◌==◌, [], false};
+ghost use Rattle.presence_node_main.specs.Orders.{IsWhole, Takes, order_of};
+
 use std::alloc::Global;
 
 /// The longest line that is kept whole.
@@ -15,7 +18,9 @@ pub(crate) enum Order {
 }
 
 /// What a whole line asks for, if anything.
-pub(crate) fn order_in(line: &[u8]) -> Option<Order> {
+pub(crate) fn order_in(line: &[u8]) -> Option<Order>
+    ensures { result ≡ order_of line.now }
+{
     if line == b"stop".as_slice() {
         Some(Order::Stop)
     } else if line == b"drain".as_slice() {
@@ -36,7 +41,10 @@ pub(crate) struct Typed {
 
 impl Typed {
     /// No byte of it has.
-    pub fn new(alloc: Global) -> Typed {
+    pub fn new(alloc: Global) -> Typed
+        ensures bytes { result.bytes.items ≡ [] }
+        ensures short { result.is_long ≡ false }
+    {
         Typed {
             bytes: Vec::new(alloc),
             is_long: false,
@@ -44,7 +52,9 @@ impl Typed {
     }
 
     // The line is whole: what it asks for. The next one begins.
-    fn end(&mut self) -> Option<Order> {
+    fn end(&mut self) -> Option<Order>
+        ensures { IsWhole self.old self.new result }
+    {
         let order = if self.is_long {
             None
         } else {
@@ -57,7 +67,9 @@ impl Typed {
 
     /// One byte more has come: what the line asks for, where that ends it. A line that is too long, or for which there is no
     /// memory, asks for nothing.
-    pub fn take(&mut self, byte: u8) -> Option<Order> {
+    pub fn take(&mut self, byte: u8) -> Option<Order>
+        ensures { Takes self.old byte (byte == 10) self.new result }
+    {
         if byte == b'\n' {
             return self.end();
         }

@@ -1,19 +1,21 @@
 //! What the threads of the server are given.
 use super::fault::BeginFault;
+use hmac_keys::Keys;
 use link_threads::LinkTask;
 use node_system::{Bell, Watch};
 use node_threads::{Giver, Posts};
 use presence_options::ServeOptions;
 use presence_server::{
-    AddressLimits, Bench, Door, DoorLimits, Entrance, LISTENER, METRICS_LISTENER, OwnKeys,
-    WorkerMailbox, Workplace,
+    API_LISTENER, AddressLimits, Bench, Desk, Door, DoorLimits, Entrance, LISTENER,
+    METRICS_LISTENER, Orders, OwnKeys, Post, WorkerMailbox, Workplace,
 };
 use serve_ports::Inbox;
 use serve_sockets::{ClientSocket, WebSocket};
 use shard_pool::{Lanes, Seat};
 use std::alloc::Global;
 use std::io;
-use std::net::Net;
+use std::net::{Net, TcpListener};
+use std::sync::Arc;
 use std::sync::atomic::{AtomicBool, AtomicU64};
 use tungstenite::NoMask;
 
@@ -35,6 +37,15 @@ pub(crate) struct Stations<L: Lanes> {
     /// One of each worker, in their order.
     pub mailboxes: Vec<WorkerMailbox>,
     pub door_bell: Bell,
+    /// What wakes the thread that answers backends, if there is one.
+    pub desk_bell: Option<Bell>,
+}
+
+/// Where backends come in, and the keys that they show.
+#[derive(Drop)]
+pub(crate) struct ApiEntrance {
+    pub listener: TcpListener,
+    pub keys: Arc<Keys, Global>,
 }
 
 /// The places of the workers, with what the others reach each of them by.
@@ -58,8 +69,24 @@ impl<L: Lanes> Places<L> {
         self.mailboxes.push(mailbox_of(alloc, &watch)?)?;
         let bench = Bench::new(alloc, seat, waiting.taker()?, watch, keys.share()?);
         let number = self.places.len();
-        self.places.push(Workplace { number, bench })?;
+        let post = Post::Bench(bench);
+        self.places.push(Workplace { number, post })?;
         Ok(())
+    }
+
+    // Adds a desk behind the benches, with what wakes it.
+    fn add_desk<R: Net>(
+        &mut self,
+        net: &R,
+        alloc: Global,
+        entrance: ApiEntrance,
+        seat: Seat<L>,
+    ) -> io::Result<Bell> {
+        let (desk, bell) = desk_at(net, alloc, entrance, seat)?;
+        let number = self.places.len();
+        let post = Post::Desk(desk);
+        self.places.push(Workplace { number, post })?;
+        Ok(bell)
     }
 }
 
@@ -70,6 +97,7 @@ fn mailbox_of(alloc: Global, watch: &Watch) -> io::Result<WorkerMailbox> {
         inbox: Inbox::new(alloc),
         looks: AtomicBool::new(false),
         drained: AtomicU64::new(0),
+        orders: Orders::new(alloc),
         bell,
     })
 }
@@ -90,6 +118,20 @@ fn places_for<R: Net, L: Lanes>(
         all.add(net, alloc, waiting, keys, seat)?;
     }
     Ok(all)
+}
+
+// The desk at this entrance, with this seat, and what wakes it.
+fn desk_at<R: Net, L: Lanes>(
+    net: &R,
+    alloc: Global,
+    entrance: ApiEntrance,
+    seat: Seat<L>,
+) -> io::Result<(Desk<L>, Bell)> {
+    let ApiEntrance { listener, keys } = entrance;
+    let watch = Watch::new(net, alloc)?;
+    watch.add(&listener, API_LISTENER)?;
+    let bell = watch.bell()?;
+    Ok((Desk::new(seat, listener, watch, keys), bell))
 }
 
 // The door at this entrance, and what wakes it.
@@ -113,11 +155,19 @@ pub(crate) fn stations_for<R: Net, L: Lanes>(
     net: &R,
     alloc: Global,
     entrance: Entrance,
+    api: Option<ApiEntrance>,
     seats: Vec<Seat<L>>,
     tasks: Vec<LinkTask>,
 ) -> Result<Stations<L>, BeginFault> {
     let mut waiting = Giver::new(alloc)?;
-    let Places { places, mailboxes } = places_for(net, alloc, &mut waiting, &entrance.keys, seats)?;
+    let mut seats = seats;
+    let last = if api.is_some() { seats.pop() } else { None };
+    let mut all = places_for(net, alloc, &mut waiting, &entrance.keys, seats)?;
+    let desk_bell = match (api, last) {
+        (Some(api), Some(seat)) => Some(all.add_desk(net, alloc, api, seat)?),
+        _ => None,
+    };
+    let Places { places, mailboxes } = all;
     let (door, door_bell) = door_at(net, alloc, entrance, waiting)?;
     let posts = Posts {
         tools: places,
@@ -128,5 +178,6 @@ pub(crate) fn stations_for<R: Net, L: Lanes>(
         posts,
         mailboxes,
         door_bell,
+        desk_bell,
     })
 }

@@ -1,6 +1,6 @@
 //! Where a server listens, and how that is told.
 ghost use Rattle.std.specs.Prelude.{◌≡◌, IfOk, option_map, string_bytes};
-ghost use Rattle.presence_node_main.specs.Place.{Brackets, IsBare, has_colon, host_text, links_text, metrics_text, place_text};
+ghost use Rattle.presence_node_main.specs.Place.{Brackets, IsBare, api_text, has_colon, host_text, links_text, metrics_text, place_text};
 
 use presence_options::ServeOptions;
 use std::alloc::{AllocError, Global};
@@ -75,6 +75,19 @@ fn metrics_at(alloc: Global, options: &ServeOptions) -> Result<String, AllocErro
     format!(in alloc; ", for metrics at http://{host}:{port}/metrics")
 }
 
+// What is told of the port of backends, if there is one.
+fn api_at(alloc: Global, options: &ServeOptions) -> Result<String, AllocError>
+    ensures { IfOk result (λ text. string_bytes text ≡ api_text options.now.api) }
+{
+    let Some(api) = &options.api else {
+        return Ok(String::new(alloc));
+    };
+    let host = host_of(alloc, api.listen.as_str())?;
+    let host = host.as_str();
+    let port = api.port;
+    format!(in alloc; ", for backends at http://{host}:{port}/api/")
+}
+
 /// Where a server of these options listens, in one line.
 pub(crate) fn place_of(alloc: Global, options: &ServeOptions) -> Result<String, AllocError>
     ensures { IfOk result (λ text. string_bytes text ≡ place_text options.now) }
@@ -82,9 +95,11 @@ pub(crate) fn place_of(alloc: Global, options: &ServeOptions) -> Result<String, 
     let host = host_of(alloc, options.listen.as_str())?;
     let links = links_at(alloc, options)?;
     let metrics = metrics_at(alloc, options)?;
+    let api = api_at(alloc, options)?;
     let host = host.as_str();
     let port = options.port;
     let links = links.as_str();
     let metrics = metrics.as_str();
-    format!(in alloc; "listening at http://{host}:{port}/{links}{metrics}")
+    let api = api.as_str();
+    format!(in alloc; "listening at http://{host}:{port}/{links}{metrics}{api}")
 }

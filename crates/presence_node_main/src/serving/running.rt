@@ -1,17 +1,19 @@
 //! A run of the server, from its port to its last line.
-ghost use Rattle.std.specs.Prelude.{◌≡◌, List, IfOk, IfErr, IfSome};
+ghost use Rattle.std.specs.Prelude.{◌≡◌, ◌≤◌, List, IfOk, IfErr};
 ghost use Rattle.presence_base.specs.Refs.{IsCount};
 ghost use Rattle.shard_pool.specs.Seats.{Hands};
 ghost use Rattle.presence_node_main.specs.ServeEnds.{Settles};
-ghost use Rattle.presence_node_main.specs.Ends.{IsEndFor, IsLinkEnd, IsMetricsEnd};
+ghost use Rattle.presence_node_main.specs.Ends.{IsApiEnd, IsEndFor, IsLinkEnd, IsMetricsEnd, seats_of};
+ghost use Rattle.presence_options.specs.declared.options.TheConstants.{MAX_WORKERS};
 ghost use Rattle.shard_pool.specs.Blanks.{HaveParts};
 ghost use Rattle.presence_node_main.specs.Ledgers.{AreBegun, IsNameOfAll};
 
 use super::belongings::{budgets_of, format_of, log_of, memory_of, now_in_seconds, settings_of};
 use super::fault::BeginFault;
-use super::pieces::{Stations, limits_of, stations_for};
+use super::pieces::{ApiEntrance, Stations, limits_of, stations_for};
 use super::place::{bare, place_of};
 use super::secrets::{Secrets, token_key_file};
+use super::state_file::{KeptLife, Unborn, life_for};
 use super::stopping::{KeyPlace, StopLine};
 use crate::end::ServeEnd;
 use crate::settling::settled;
@@ -22,7 +24,7 @@ use node_threads::{Posts, run_crew};
 use presence_base::{MAX_COUNT, Replica};
 use presence_options::{PeerOption, ServeOptions, VERSION};
 use presence_server::{
-    Door, Entrance, Entries, KeyRing, OwnKeys, ServeRuntime, Server, Workplace, seats_of,
+    Barred, Door, Entrance, Entries, KeyRing, OwnKeys, ServeRuntime, Server, Workplace, seats_of,
 };
 use serve_grace::Grace;
 use serve_metrics::Counts;
@@ -42,6 +44,7 @@ struct Setting<'a, H> {
     hooks: &'a H,
     options: &'a ServeOptions,
     secrets: &'a Secrets,
+    kept: &'a KeptLife,
     incarnation: u64,
     ghost is_count: { IsCount incarnation },
 }
@@ -60,17 +63,13 @@ fn life_at(milliseconds: u128) -> u64
     }
 }
 
-// The incarnation that is given, or that of the clock: its milliseconds since 1970. Where it can't be read that is 1.
-fn incarnation_for<R: Clock>(rt: &R, options: &ServeOptions) -> u64
-    ensures count { IsCount result }
-    ensures given { IfSome options.now.incarnation (λ given. result ≡ given) }
+// The incarnation of the clock: its milliseconds since 1970. Where it can't be read that is 1.
+fn incarnation_now<R: Clock>(rt: &R) -> u64
+    ensures { IsCount result }
 {
-    match options.incarnation {
-        Some(incarnation) => incarnation,
-        None => match rt.since_1970() {
-            Ok(time) => life_at(time.as_millis()),
-            Err(_) => life_at(1),
-        },
+    match rt.since_1970() {
+        Ok(time) => life_at(time.as_millis()),
+        Err(_) => life_at(1),
     }
 }
 
@@ -79,6 +78,7 @@ struct Listeners {
     clients: TcpListener,
     links: Option<TcpListener>,
     metrics: Option<TcpListener>,
+    api: Option<TcpListener>,
 }
 
 impl Drop for Listeners {
@@ -87,22 +87,25 @@ impl Drop for Listeners {
             clients,
             links,
             metrics,
+            api,
         } = self;
         drop(clients);
         drop(links);
         drop(metrics);
+        drop(api);
     }
 }
 
 impl Listeners {
-    // What listens for clients and for who asks for metrics, and what for links.
-    fn into_parts(self) -> (Entries, Option<TcpListener>) {
+    // What listens for clients and for who asks for metrics, what for links, and what for backends.
+    fn into_parts(self) -> (Entries, Option<TcpListener>, Option<TcpListener>) {
         let Listeners {
             clients,
             links,
             metrics,
+            api,
         } = self;
-        (Entries { clients, metrics }, links)
+        (Entries { clients, metrics }, links, api)
     }
 }
 
@@ -137,6 +140,17 @@ fn metrics_port_refused(port: u16, kind: ErrorKind) -> ServeEnd
         ErrorKind::OutOfMemory => ServeEnd::Memory,
         ErrorKind::AddrInUse => ServeEnd::MetricsPortTaken(port),
         _ => ServeEnd::NoMetricsPort(port),
+    }
+}
+
+// The end of a run whose port of backends could not be had.
+fn api_port_refused(port: u16, kind: ErrorKind) -> ServeEnd
+    ensures { IsApiEnd port result }
+{
+    match kind {
+        ErrorKind::OutOfMemory => ServeEnd::Memory,
+        ErrorKind::AddrInUse => ServeEnd::ApiPortTaken(port),
+        _ => ServeEnd::NoApiPort(port),
     }
 }
 
@@ -184,6 +198,22 @@ where
     }
 }
 
+// What listens for backends, if they are answered, or the end of a run that can't have it.
+#[tactic(auto, using(crate::proofs::Places::api_end))]
+fn api_at<R>(rt: &R, options: &ServeOptions) -> Result<Option<TcpListener>, ServeEnd>
+where
+    R: Net<Listener = TcpListener, Stream = TcpStream>,
+    ensures { IfErr result (λ end. IsEndFor options.now end) }
+{
+    let Some(api) = &options.api else {
+        return Ok(None);
+    };
+    match listen(rt, bare(api.listen.as_str()), api.port) {
+        Ok(listener) => Ok(Some(listener)),
+        Err(e) => Err(api_port_refused(api.port, e.kind())),
+    }
+}
+
 // All listening sockets, or the end of a run that can't have them.
 fn listeners_for<R>(rt: &R, options: &ServeOptions) -> Result<Listeners, ServeEnd>
 where
@@ -193,10 +223,12 @@ where
     let clients = clients_for(rt, options)?;
     let links = links_at(rt, options)?;
     let metrics = metrics_at(rt, options)?;
+    let api = api_at(rt, options)?;
     Ok(Listeners {
         clients,
         links,
         metrics,
+        api,
     })
 }
 
@@ -210,8 +242,27 @@ fn dial_all(alloc: Global, peers: &[PeerOption], tasks: &mut LinkTasks) -> Resul
     Ok(())
 }
 
+// Each of these nodes is told what is shouted here too, where that is wanted.
+fn tell_all(
+    alloc: Global,
+    options: &ServeOptions,
+    journal: u64,
+    tasks: &mut LinkTasks,
+) -> Result<(), AllocError>
+    ensures { tasks.new.links.shards ≡ tasks.old.links.shards }
+{
+    if !options.shouts_across {
+        return Ok(());
+    }
+    tasks.shares_shouts(alloc, journal, options.link_shouts);
+    for peer in options.peers.as_slice() {
+        tasks.tell(alloc, peer.name, peer.host.as_str(), peer.port)?;
+    }
+    Ok(())
+}
+
 // What the threads of links share and do: links come in at this listening socket, and the peers are dialled.
-fn links_for<R: Net, H>(
+fn links_for<R: Net + Clock, H>(
     rt: &R,
     setting: &Setting<'_, H>,
     listener: Option<TcpListener>,
@@ -220,12 +271,8 @@ fn links_for<R: Net, H>(
 {
     let alloc = setting.alloc;
     let options = setting.options;
-    let own = Replica {
-        name: options.name,
-        incarnation: setting.incarnation,
-    };
     let node = LinkNode {
-        own,
+        life: setting.kept.life,
         shards: options.shards,
         version: options.link_version,
         format: format_of(&options.reports),
@@ -236,8 +283,41 @@ fn links_for<R: Net, H>(
     if let Some(keys) = &setting.secrets.link_keys {
         tasks.wants(Arc::try_clone(keys)?);
     }
+    if let Some(file) = &setting.kept.file {
+        tasks.keeps(file.clone()?);
+    }
     dial_all(alloc, options.peers.as_slice(), &mut tasks)?;
+    tell_all(alloc, options, setting.incarnation, &mut tasks)?;
+    if let Some(sought) = &options.sought {
+        tasks.seek(alloc, sought.host.as_str(), sought.port)?;
+    }
     Ok(tasks)
+}
+
+// Where backends come in, if they are answered.
+fn api_entrance(
+    secrets: &Secrets,
+    listener: Option<TcpListener>,
+) -> Result<Option<ApiEntrance>, AllocError> {
+    match (listener, &secrets.api_keys) {
+        (Some(listener), Some(keys)) => Ok(Some(ApiEntrance {
+            listener,
+            keys: Arc::try_clone(keys)?,
+        })),
+        _ => Ok(None),
+    }
+}
+
+// How many seats there are: one of each worker, and one for backends, where these are answered.
+fn seats_for(options: &ServeOptions) -> u32
+    ensures seats { result ≡ seats_of options.now }
+    ensures few { result ≤ MAX_WORKERS }
+{
+    if options.api.is_some() {
+        options.workers + 1
+    } else {
+        options.workers
+    }
 }
 
 // Drops the receipts that have no entry any more.
@@ -310,7 +390,8 @@ where
     let alloc = setting.alloc;
     let options = setting.options;
     let settings = settings_of(alloc, &options.clients)?;
-    let (entries, links) = listeners.into_parts();
+    let (entries, links, api) = listeners.into_parts();
+    let api = api_entrance(setting.secrets, api)?;
     let entrance = Entrance {
         entries,
         limits: limits_of(options),
@@ -321,7 +402,8 @@ where
         posts,
         mailboxes,
         door_bell,
-    } = stations_for(rt, alloc, entrance, seats, tasks)?;
+        desk_bell,
+    } = stations_for(rt, alloc, entrance, api, seats, tasks)?;
     let server = Server {
         alloc,
         pool,
@@ -338,9 +420,11 @@ where
         counts: Counts::new(),
         mailboxes,
         door_bell,
+        desk_bell,
         links,
         stopped: AtomicBool::new(false),
         keys: KeyRing::new(&setting.secrets.token_keys)?,
+        barred: Barred::new(alloc),
         grace: Grace::new(options.budgets.grace),
     };
     run_server(rt, server, posts, options)
@@ -365,7 +449,7 @@ where
         × (blanks.third.name ≡ C.name) × (blanks.fourth.name ≡ D.name) }
     requires ledgers { (blanks.first.parts ≡ A.parts) × (blanks.second.parts ≡ B.parts)
         × (blanks.third.parts ≡ C.parts) × (blanks.fourth.parts ≡ D.parts) }
-    requires parts { HaveParts blanks setting.now.options.now.workers }
+    requires parts { HaveParts blanks (seats_of setting.now.options.now) }
     requires node { IsNameOfAll setting.now.options.now.name A.node B.node C.node D.node }
     requires begins { AreBegun A.begins B.begins C.begins D.begins
         setting.now.options.now.name setting.now.incarnation }
@@ -380,7 +464,7 @@ where
         setting.alloc,
         own,
         options.shards,
-        options.workers,
+        seats_for(options),
         NoGate,
         blanks,
     );
@@ -398,6 +482,8 @@ where
 /// once connections are taken. The end of the input does not end it. Standard error is told of each link that comes up
 /// or goes.
 ///
+/// Once it has its ports its life begins, behind the one that a file keeps, if one does: or it says in words why it can't.
+///
 /// That a client is served or a node told of anything, and when, no contract says.
 pub fn serve<R, H>(
     rt: &R,
@@ -405,23 +491,26 @@ pub fn serve<R, H>(
     hooks: &H,
     options: &ServeOptions,
     secrets: &Secrets,
-) -> ServeEnd
+) -> Result<ServeEnd, Unborn>
 where
     R: ServeRuntime,
     H: PresenceHooks + Sync,
-    ensures { IsEndFor options.now result }
+    ensures { IfOk result (IsEndFor options.now) }
 {
     let listeners = match listeners_for(rt, options) {
         Ok(listeners) => listeners,
-        Err(end) => return end,
+        Err(end) => return Ok(end),
     };
-    let blanks = Blanks::new(u64::from(options.workers));
+    let kept = life_for(rt, alloc, options, incarnation_now(rt))?;
+    let blanks = Blanks::new(u64::from(seats_for(options)));
     let setting = Setting {
         alloc,
         hooks,
         options,
         secrets,
-        incarnation: incarnation_for(rt, options),
+        kept: &kept,
+        incarnation: kept.life.own.incarnation,
     };
-    serve_lanes::<R, H, Brand, Brand, Brand, Brand>(rt, &setting, listeners, blanks)
+    let end = serve_lanes::<R, H, Brand, Brand, Brand, Brand>(rt, &setting, listeners, blanks);
+    Ok(end)
 }

@@ -6,10 +6,12 @@ use std::alloc::{AllocError, Global};
 use std::rt::Files;
 use std::sync::Arc;
 
-/// The keys of the tokens that clients show, if they have to show some, and those that nodes show one another, if they do.
+/// The keys of the tokens that clients show, if they have to show some, those that nodes show one another, if they do, and those
+/// that backends show, if they are answered.
 pub(crate) struct Secrets {
     pub token_keys: Option<Arc<Keys, Global>>,
     pub link_keys: Option<Arc<Keys, Global>>,
+    pub api_keys: Option<Arc<Keys, Global>>,
 }
 
 impl Drop for Secrets {
@@ -17,9 +19,11 @@ impl Drop for Secrets {
         let Secrets {
             token_keys,
             link_keys,
+            api_keys,
         } = self;
         drop(token_keys);
         drop(link_keys);
+        drop(api_keys);
     }
 }
 
@@ -40,6 +44,17 @@ fn link_key_file(options: &ServeOptions) -> Option<KeyFile<'_>> {
         Some(path) => Some(KeyFile {
             option: "link-keys",
             path: path.as_str(),
+        }),
+        None => None,
+    }
+}
+
+// The file of the keys of backends, if they are answered.
+fn api_key_file(options: &ServeOptions) -> Option<KeyFile<'_>> {
+    match &options.api {
+        Some(api) => Some(KeyFile {
+            option: "api-keys",
+            path: api.keys.as_str(),
         }),
         None => None,
     }
@@ -66,5 +81,6 @@ pub(crate) fn secrets_of<R: Files>(
     Ok(Secrets {
         token_keys: keys_in(rt, alloc, token_key_file(options))?,
         link_keys: keys_in(rt, alloc, link_key_file(options))?,
+        api_keys: keys_in(rt, alloc, api_key_file(options))?,
     })
 }

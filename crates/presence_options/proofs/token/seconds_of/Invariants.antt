@@ -1,5 +1,5 @@
 use Rattle.std.proofs.Common.{◌≡◌, ◌≤◌, ◌+◌, drop}
-use Rattle.presence_options.specs.Given.{time_from}
+use Rattle.presence_options.specs.Times.{time_from}
 use Rattle.presence_options.specs.declared.options.TheConstants.{MAX_LASTS}
 use Rattle.presence_options.proofs.token.seconds_of.Given as goal
 

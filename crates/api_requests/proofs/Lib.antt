@@ -1,0 +1,5 @@
+pub mod Granting
+mod Json
+mod Queries
+pub mod Sending
+mod Steps

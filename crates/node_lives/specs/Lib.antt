@@ -1,0 +1,3 @@
+pub mod Laws
+pub mod Next
+pub mod Texts

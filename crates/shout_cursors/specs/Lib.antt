@@ -1,0 +1,4 @@
+pub mod Gathering
+pub mod Laws
+pub mod Shouting
+pub mod Taking
