@@ -8,13 +8,13 @@ use Rattle.presence_journal.specs.Limits.{is_payload}
 use Rattle.presence_journal.specs.declared.limits.TheConstants.{MAX_PAYLOAD_DEPTH}
 use Rattle.api_requests.specs.Asking.{asked, asked_at, asked_of, short_body}
 use Rattle.api_requests.specs.Bodies.{all_in, body_in, by_topics, disconnect_in, key_told, one_in, payload_in, payload_told, publish_in, seconds_told, topic_if_told, topic_told, topics_in}
-use Rattle.api_requests.specs.Forms.{page_in, presence_in, told_after_in, told_key_in, told_limit_in, told_topic_in}
+use Rattle.api_requests.specs.Forms.{events_by, page_in, position_told, presence_in, told_after_in, told_key_in, told_limit_in, told_position_in, told_topic_in}
 use Rattle.api_requests.specs.Laws.{PayloadsMayBeShouted, SendsWithin}
 use Rattle.api_requests.specs.Places.{place_in, takes}
 use Rattle.api_requests.specs.Shown.{let_in}
 use Rattle.api_requests.specs.Steps.{◌>>=◌, Gives}
 use Rattle.api_requests.specs.declared.asked.Asked.{Asked}
-use Rattle.api_requests.specs.declared.asked.Asked.TheVariants.{Publish, PublishAll, Presence, Page, Disconnect, Figures, Methods}
+use Rattle.api_requests.specs.declared.asked.Asked.TheVariants.{Publish, PublishAll, Presence, Page, Disconnect, Figures, Events, Methods}
 use Rattle.api_requests.specs.declared.fault.RequestFault.{RequestFault}
 use Rattle.api_requests.specs.declared.fault.RequestFault.TheVariants as faults
 use Rattle.api_requests.specs.declared.places.Place.{Place}
@@ -83,6 +83,12 @@ put_out d a is =
     let seconds = bind_ok (seconds_told (get (codes "for") d)) _ a topic.2 in
     within (Disconnect key.0 topic.0 seconds.0) a tt seconds.2
 
+streamed : (last query : Option (List ℕ)) (a : Asked) → events_by last query ≡ Ok a → SendsWithin a
+streamed (Some last) query a is =
+    let position = bind_ok (position_told last) _ a is in within (Events (Some position.0)) a tt position.2
+streamed None query a is =
+    let position = bind_ok (told_position_in query) _ a is in within (Events position.0) a tt position.2
+
 of_place : (place : Place) (r : Request) (a : Asked) → asked_of place r ≡ Ok a → SendsWithin a
 of_place places.Publish r a is =
     let body = bind_ok (body_in r.body.now) publish_in a is in published body.0 (get (codes "topics") body.0) a body.2
@@ -91,6 +97,7 @@ of_place places.Topics r a is = paged _ a is
 of_place places.Disconnect r a is =
     let body = bind_ok (body_in r.body.now) disconnect_in a is in put_out body.0 a body.2
 of_place places.Metrics r a is = within Figures a tt is
+of_place places.Events r a is = streamed (option_map (λ l. l.now) r.last) (option_map (λ q. q.now) r.query) a is
 
 by_method : (b : Bool) (place : Place) (r : Request) (a : Asked)
     → (if b then Ok (Methods place) else (if takes place r.method.now then short_body r.body.now >>= (λ _. asked_of place r) else Err (faults.NotAllowed place))) ≡ Ok a

@@ -1,7 +1,7 @@
 -- What a request asks, or the first fault of it.
 use Rattle.std.specs.Prelude.{ℕ, nat_lt, if◌then◌else◌, List, length, Result, Ok, Err, codes, bytes_eq, option_map}
 use Rattle.api_requests.specs.Bodies.{body_in, disconnect_in, publish_in}
-use Rattle.api_requests.specs.Forms.{page_in, presence_in}
+use Rattle.api_requests.specs.Forms.{events_in, page_in, presence_in}
 use Rattle.api_requests.specs.Places.{place_in, takes}
 use Rattle.api_requests.specs.Shown.{let_in}
 use Rattle.api_requests.specs.Steps.{◌>>=◌}
@@ -10,7 +10,7 @@ use Rattle.api_requests.specs.declared.asked.Asked.TheVariants.{Figures, Methods
 use Rattle.api_requests.specs.declared.fault.RequestFault.{RequestFault}
 use Rattle.api_requests.specs.declared.fault.RequestFault.TheVariants.{NotAllowed, TooLong}
 use Rattle.api_requests.specs.declared.places.Place.{Place}
-use Rattle.api_requests.specs.declared.places.Place.TheVariants.{Publish, Presence, Topics, Disconnect, Metrics}
+use Rattle.api_requests.specs.declared.places.Place.TheVariants.{Publish, Presence, Topics, Disconnect, Metrics, Events}
 use Rattle.api_requests.specs.declared.request.Request.{Request}
 use Rattle.api_requests.specs.declared.request.TheConstants.{MAX_BODY_BYTES}
 
@@ -24,6 +24,7 @@ asked_of Presence r = presence_in (option_map (λ q. q.now) r.query)
 asked_of Topics r = page_in (option_map (λ q. q.now) r.query)
 asked_of Disconnect r = body_in r.body.now >>= disconnect_in
 asked_of Metrics r = Ok Figures
+asked_of Events r = events_in r
 
 -- OPTIONS asks by which methods (RFC 9110, section 9.3.7)
 abbrev pub asked_at : Place → Request → Result Asked RequestFault

@@ -1,15 +1,18 @@
 -- What stands in a query (URL Standard, section 5), and what that asks.
-use Rattle.std.specs.Prelude.{ℕ, ◌&&◌, nat_le, if◌then◌else◌, List, [], ◌∷◌, Option, Some, None, option_and_then, Result, Ok, Err, codes, bytes_eq}
+use Rattle.std.specs.Prelude.{ℕ, ◌&&◌, nat_le, if◌then◌else◌, List, [], ◌∷◌, Option, Some, None, option_and_then, option_map, Result, Ok, Err, codes, bytes_eq}
 use Rattle.std.specs.Str.Lossy.{utf8_lossy}
 use Rattle.form_urlencoded.specs.Form.{decode, raw_pairs}
 use Rattle.presence_base.specs.Names.{is_short_text}
 use Rattle.tokens.specs.Claimed.{whole_number}
+use Rattle.api_requests.specs.Positions.{position_in}
 use Rattle.api_requests.specs.Steps.{◌>>=◌}
 use Rattle.api_requests.specs.declared.asked.Asked.{Asked}
-use Rattle.api_requests.specs.declared.asked.Asked.TheVariants.{Presence, Page}
+use Rattle.api_requests.specs.declared.asked.Asked.TheVariants.{Events, Presence, Page}
 use Rattle.api_requests.specs.declared.fault.RequestFault.{RequestFault}
-use Rattle.api_requests.specs.declared.fault.RequestFault.TheVariants.{BadTopic, BadPayload, BadLimit}
+use Rattle.api_requests.specs.declared.fault.RequestFault.TheVariants.{BadTopic, BadPayload, BadLimit, BadPosition}
 use Rattle.api_requests.specs.declared.forms.TheConstants.{MAX_PAGE}
+use Rattle.api_requests.specs.declared.position.Position.{Position}
+use Rattle.api_requests.specs.declared.request.Request.{Request}
 
 -- what a name or a value stands for; bytes of it that are no UTF-8 stand for U+FFFD
 abbrev pub text_of : List ℕ → List ℕ
@@ -79,3 +82,25 @@ page_in query = do
   after ← told_after_in query
   limit ← told_limit_in query
   Ok (Page after limit)
+
+-- a position that a text says
+abbrev pub if_position : Option Position → Result Position RequestFault
+if_position None = Err BadPosition
+if_position (Some p) = Ok p
+
+abbrev pub position_told : List ℕ → Result Position RequestFault
+position_told text = if_position (position_in text)
+
+abbrev pub told_position_in : Option (List ℕ) → Result (Option Position) RequestFault
+told_position_in query = if_told position_told (told_in (codes "after") query)
+
+abbrev pub as_events : Option Position → Result Asked RequestFault
+as_events after = Ok (Events after)
+
+-- where the reader has read to, or else `after`, which may be left out
+abbrev pub events_by : Option (List ℕ) → Option (List ℕ) → Result Asked RequestFault
+events_by (Some last) query = position_told last >>= (λ p. as_events (Some p))
+events_by None query = told_position_in query >>= as_events
+
+abbrev pub events_in : Request → Result Asked RequestFault
+events_in r = events_by (option_map (λ l. l.now) r.last) (option_map (λ q. q.now) r.query)

@@ -3,6 +3,8 @@ pub mod Bodies
 pub mod Forms
 pub mod Laws
 pub mod Places
+pub mod Positions
 pub mod Replies
 pub mod Shown
 pub mod Steps
+pub mod Streaming

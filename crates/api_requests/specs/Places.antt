@@ -3,7 +3,7 @@ use Rattle.std.specs.Prelude.{ℕ, Bool, ◌||◌, if◌then◌else◌, List, Re
 use Rattle.api_requests.specs.declared.fault.RequestFault.{RequestFault}
 use Rattle.api_requests.specs.declared.fault.RequestFault.TheVariants.{NotFound, NotAllowed}
 use Rattle.api_requests.specs.declared.places.Place.{Place}
-use Rattle.api_requests.specs.declared.places.Place.TheVariants.{Publish, Presence, Topics, Disconnect, Metrics}
+use Rattle.api_requests.specs.declared.places.Place.TheVariants.{Publish, Presence, Topics, Disconnect, Metrics, Events}
 
 abbrev pub place_in : List ℕ → Result Place RequestFault
 place_in path =
@@ -11,7 +11,8 @@ place_in path =
     else (if bytes_eq path (codes "/api/presence") then Ok Presence
     else (if bytes_eq path (codes "/api/topics") then Ok Topics
     else (if bytes_eq path (codes "/api/disconnect") then Ok Disconnect
-    else (if bytes_eq path (codes "/api/metrics") then Ok Metrics else Err NotFound))))
+    else (if bytes_eq path (codes "/api/metrics") then Ok Metrics
+    else (if bytes_eq path (codes "/api/events") then Ok Events else Err NotFound)))))
 
 abbrev pub is_posted : List ℕ → Bool
 is_posted method = bytes_eq method (codes "POST")
@@ -26,6 +27,7 @@ takes Presence method = is_got method
 takes Topics method = is_got method
 takes Disconnect method = is_posted method
 takes Metrics method = is_got method
+takes Events method = is_got method
 
 abbrev pub methods_of : Place → List ℕ
 methods_of Publish = codes "OPTIONS, POST"
@@ -33,3 +35,4 @@ methods_of Presence = codes "GET, HEAD, OPTIONS"
 methods_of Topics = codes "GET, HEAD, OPTIONS"
 methods_of Disconnect = codes "OPTIONS, POST"
 methods_of Metrics = codes "GET, HEAD, OPTIONS"
+methods_of Events = codes "GET, HEAD, OPTIONS"

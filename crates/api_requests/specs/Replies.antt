@@ -3,8 +3,10 @@ use Rattle.std.specs.Prelude.{ℕ, List, [], ◌∷◌, ◌++◌, Option, Some, 
 use Rattle.json.specs.Print.{quoted}
 use Rattle.api_requests.specs.Places.{methods_of}
 use Rattle.api_requests.specs.declared.fault.RequestFault.{RequestFault}
-use Rattle.api_requests.specs.declared.fault.RequestFault.TheVariants.{NoKey, OtherKey, NotFound, NotAllowed, TooLong, NotJson, BadTopic, TooDeep, Fraction, BadPayload, BadLimit, Unmatched, Full, OutOfMemory}
+use Rattle.api_requests.specs.declared.fault.RequestFault.TheVariants.{NoKey, OtherKey, NotFound, NotAllowed, TooLong, NotJson, BadTopic, TooDeep, Fraction, BadPayload, BadLimit, BadPosition, Unmatched, Full, OutOfMemory}
 use Rattle.api_requests.specs.declared.places.Place.{Place}
+use Rattle.api_requests.specs.declared.reply.Kind.{Kind}
+use Rattle.api_requests.specs.declared.reply.Kind.TheVariants.{Json}
 use Rattle.api_requests.specs.declared.reply.Outcome.{Outcome}
 use Rattle.api_requests.specs.declared.reply.Outcome.TheVariants.{Sent, Refused}
 use Rattle.api_requests.specs.declared.reply.Reply.{Reply}
@@ -16,16 +18,17 @@ use Rattle.topic_pages.specs.declared.page.TopicCounts.{TopicCounts}
 pub record Told : Type 0 where
   pub status : ℕ
   pub methods : Option (List ℕ)
+  pub kind : Kind
   pub body : List ℕ
 
 abbrev pub reply_view : Reply → Told
-reply_view r = record { status = r.status; methods = option_map (λ m. m.now) r.methods; body = string_bytes r.body }
+reply_view r = record { status = r.status; methods = option_map (λ m. m.now) r.methods; kind = r.kind; body = string_bytes r.body }
 
 abbrev pub ok_reply : List ℕ → Told
-ok_reply body = record { status = 200; methods = None; body = body }
+ok_reply body = record { status = 200; methods = None; kind = Json; body = body }
 
 abbrev pub allowed_in : Place → Told
-allowed_in place = record { status = 204; methods = Some (methods_of place); body = [] }
+allowed_in place = record { status = 204; methods = Some (methods_of place); kind = Json; body = [] }
 
 -- ---- refusals
 
@@ -41,6 +44,7 @@ status_of TooDeep = 400
 status_of Fraction = 400
 status_of BadPayload = 400
 status_of BadLimit = 400
+status_of BadPosition = 400
 status_of Unmatched = 400
 status_of Full = 503
 status_of OutOfMemory = 503
@@ -58,6 +62,7 @@ reason_of TooDeep = codes "M7 the payload is too deep: 64 levels are allowed"
 reason_of Fraction = codes "M8 a number in the payload is not a whole number of 64 bits"
 reason_of BadPayload = codes "bad payload"
 reason_of BadLimit = codes "the limit is not a whole number from 1 to 1000"
+reason_of BadPosition = codes "after is not what the id of an event says"
 reason_of Unmatched = codes "unmatched topic"
 reason_of Full = codes "full"
 reason_of OutOfMemory = codes "out of memory"
@@ -71,7 +76,7 @@ told_methods (NotAllowed place) = Some (methods_of place)
 told_methods _ = None
 
 abbrev pub refused_in : RequestFault → Told
-refused_in fault = record { status = status_of fault; methods = told_methods fault; body = reason_text fault }
+refused_in fault = record { status = status_of fault; methods = told_methods fault; kind = Json; body = reason_text fault }
 
 -- ---- what was published
 

@@ -1,5 +1,6 @@
 //! What a request asks.
 use crate::places::Place;
+use crate::position::Position;
 use presence_base::{Json, Key, Topic};
 use std::alloc::{AllocError, Global};
 use std::marker::Model;
@@ -84,6 +85,10 @@ pub enum Asked {
     },
     /// What the server has counted.
     Figures,
+    /// What came of rows behind this position, or will from now on.
+    Events {
+        after: Option<Position>,
+    },
     /// By which methods this place is asked.
     Methods(Place),
 }

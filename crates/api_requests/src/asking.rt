@@ -8,7 +8,7 @@ ghost use Rattle.api_requests.specs.Steps.{Gives};
 use crate::asked::Asked;
 use crate::bodies::{disconnect_of, publish_of, value_of};
 use crate::fault::RequestFault;
-use crate::forms::{page_of, presence_of};
+use crate::forms::{events_of, page_of, presence_of};
 use crate::places::{Place, place_of, takes};
 use crate::request::{MAX_BODY_BYTES, Request};
 use crate::shown::let_in;
@@ -35,6 +35,7 @@ fn asked_of(alloc: Global, place: Place, request: &Request<'_>) -> Result<Asked,
         Place::Topics => page_of(alloc, request.query),
         Place::Disconnect => disconnect_of(alloc, &value_of(alloc, request.body)?),
         Place::Metrics => Ok(Asked::Figures),
+        Place::Events => events_of(alloc, request),
     }
 }
 

@@ -27,6 +27,8 @@ pub enum RequestFault {
     BadPayload,
     /// How many topics a page is to have isn't what it may be.
     BadLimit,
+    /// What a reader of events has read isn't said as they say it.
+    BadPosition,
     /// No route of the server's fits the topic.
     Unmatched,
     /// The shard's journal has no room, or what is asked finds none.

@@ -1,11 +1,13 @@
 //! What a query asks.
 ghost use Rattle.std.specs.Prelude.{◌≡◌, IfOk, bytes_eq, option_map, string_bytes};
 ghost use Rattle.form_urlencoded.specs.Form.{raw_pairs};
-ghost use Rattle.api_requests.specs.Forms.{key_in, limit_in, page_in, presence_in, told_after_in, told_in, told_key_in, told_limit_in, text_of, told_topic_in, topic_in, value_of};
+ghost use Rattle.api_requests.specs.Forms.{events_in, key_in, limit_in, page_in, position_told, presence_in, told_after_in, told_in, told_key_in, told_limit_in, told_position_in, text_of, told_topic_in, topic_in, value_of};
 ghost use Rattle.api_requests.specs.Steps.{Gives};
 
 use crate::asked::Asked;
 use crate::fault::RequestFault;
+use crate::position::Position;
+use crate::request::Request;
 use fast_float::Numeral;
 use form_urlencoded::{decode, raw_pairs};
 use presence_base::{Key, Topic};
@@ -137,4 +139,35 @@ pub(crate) fn page_of(alloc: Global, query: Option<&str>) -> Result<Asked, Reque
     let after = told_after(alloc, query)?;
     let limit = told_limit(alloc, query)?;
     Ok(Asked::Page { after, limit })
+}
+
+// The position that a text says.
+fn position_of(text: &[u8]) -> Result<Position, RequestFault>
+    ensures { result ≡ position_told text.now }
+{
+    match Position::read(text) {
+        Some(position) => Ok(position),
+        None => Err(RequestFault::BadPosition),
+    }
+}
+
+// The position that a query tells, if it tells one.
+fn told_position(alloc: Global, query: Option<&str>) -> Result<Option<Position>, RequestFault>
+    ensures { Gives (λ p. p) result (told_position_in (option_map (λ q. q.now) query.entry)) }
+{
+    match told(alloc, query, "after")? {
+        Some(text) => Ok(Some(position_of(text.as_bytes())?)),
+        None => Ok(None),
+    }
+}
+
+/// What came of rows, as a request asks it: behind where its reader has read to, or else behind what the query says.
+pub(crate) fn events_of(alloc: Global, request: &Request<'_>) -> Result<Asked, RequestFault>
+    ensures { Gives (λ a. a) result (events_in request.now) }
+{
+    let after = match request.last {
+        Some(last) => Some(position_of(last)?),
+        None => told_position(alloc, request.query)?,
+    };
+    Ok(Asked::Events { after })
 }

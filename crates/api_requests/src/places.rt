@@ -12,6 +12,7 @@ pub enum Place {
     Topics,
     Disconnect,
     Metrics,
+    Events,
 }
 
 /// What stands at a path.
@@ -28,6 +29,8 @@ pub(crate) fn place_of(path: &str) -> Result<Place, RequestFault>
         Ok(Place::Disconnect)
     } else if path == "/api/metrics" {
         Ok(Place::Metrics)
+    } else if path == "/api/events" {
+        Ok(Place::Events)
     } else {
         Err(RequestFault::NotFound)
     }
@@ -39,7 +42,9 @@ pub(crate) fn takes(place: Place, method: &str) -> bool
 {
     match place {
         Place::Publish | Place::Disconnect => method == "POST",
-        Place::Presence | Place::Topics | Place::Metrics => method == "GET" || method == "HEAD",
+        Place::Presence | Place::Topics | Place::Metrics | Place::Events => {
+            method == "GET" || method == "HEAD"
+        }
     }
 }
 
@@ -49,6 +54,6 @@ pub(crate) fn methods_of(place: Place) -> &'static str
 {
     match place {
         Place::Publish | Place::Disconnect => "OPTIONS, POST",
-        Place::Presence | Place::Topics | Place::Metrics => "GET, HEAD, OPTIONS",
+        Place::Presence | Place::Topics | Place::Metrics | Place::Events => "GET, HEAD, OPTIONS",
     }
 }

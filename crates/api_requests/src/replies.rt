@@ -6,7 +6,7 @@ ghost use Rattle.api_requests.specs.Replies.{allowed_in, connections_text, figur
 
 use crate::fault::RequestFault;
 use crate::places::{Place, methods_of};
-use crate::reply::Reply;
+use crate::reply::{Kind, Reply};
 use phx_message::push_quoted;
 use presence_base::Json;
 use presence_journal::SharedRows;
@@ -27,6 +27,7 @@ fn status_of(fault: RequestFault) -> u16
         | RequestFault::Fraction
         | RequestFault::BadPayload
         | RequestFault::BadLimit
+        | RequestFault::BadPosition
         | RequestFault::Unmatched => 400,
         RequestFault::Full | RequestFault::OutOfMemory => 503,
     }
@@ -50,6 +51,7 @@ fn reason_of(fault: RequestFault) -> &'static str
         RequestFault::Fraction => "M8 a number in the payload is not a whole number of 64 bits",
         RequestFault::BadPayload => "bad payload",
         RequestFault::BadLimit => "the limit is not a whole number from 1 to 1000",
+        RequestFault::BadPosition => "after is not what the id of an event says",
         RequestFault::Unmatched => "unmatched topic",
         RequestFault::Full => "full",
         RequestFault::OutOfMemory => "out of memory",
@@ -84,6 +86,7 @@ pub fn refused(alloc: Global, fault: RequestFault) -> Result<Reply, AllocError>
     Ok(Reply {
         status: status_of(fault),
         methods: told_methods(fault),
+        kind: Kind::Json,
         body,
     })
 }
@@ -95,6 +98,7 @@ pub fn allowed(alloc: Global, place: Place) -> Reply
     Reply {
         status: 204,
         methods: Some(methods_of(place)),
+        kind: Kind::Json,
         body: String::new(alloc),
     }
 }
@@ -106,12 +110,13 @@ pub(crate) fn ok(body: String) -> Reply
     Reply {
         status: 200,
         methods: None,
+        kind: Kind::Json,
         body,
     }
 }
 
-// The text of rows, shared or anew.
-fn text_of_rows(alloc: Global, rows: &SharedRows) -> Result<String, AllocError>
+/// The text of rows, shared or anew.
+pub(crate) fn text_of_rows(alloc: Global, rows: &SharedRows) -> Result<String, AllocError>
     ensures { IfOk result (λ s. string_bytes s ≡ compact_text (state_of rows.now)) }
 {
     match rows.text() {

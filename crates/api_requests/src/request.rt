@@ -13,5 +13,7 @@ pub struct Request<'a> {
     pub query: Option<&'a str>,
     /// What stands behind `Bearer` in its field `Authorization`, if it has one and that stands there.
     pub shown: Option<&'a [u8]>,
+    /// What its field `Last-Event-ID` says, if it has one: a reader that comes again tells so how far it has read.
+    pub last: Option<&'a [u8]>,
     pub body: &'a [u8],
 }

@@ -28,6 +28,7 @@ fn shown(alloc: Global, shown: Option<&[u8]>) -> Result<Option<RequestFault>, Fa
         path: "/api/publish",
         query: None,
         shown,
+        last: None,
         body: b"",
     };
     Ok(ask(alloc, &keys(alloc)?, &request).err())
@@ -46,6 +47,7 @@ fn fault(
         path,
         query,
         shown: Some(KEY),
+        last: None,
         body,
     };
     Ok(ask(alloc, &keys(alloc)?, &request).err())
@@ -68,6 +70,7 @@ fn asked(
         path,
         query,
         shown: Some(KEY),
+        last: None,
         body,
     };
     match ask(alloc, &keys(alloc)?, &request) {

@@ -47,6 +47,7 @@ of_fault faults.TooDeep reading no gives = of_key faults.TooDeep reading no give
 of_fault faults.Fraction reading no gives = of_key faults.Fraction reading no gives
 of_fault faults.BadPayload reading no gives = of_key faults.BadPayload reading no gives
 of_fault faults.BadLimit reading no gives = of_key faults.BadLimit reading no gives
+of_fault faults.BadPosition reading no gives = of_key faults.BadPosition reading no gives
 of_fault faults.Unmatched reading no gives = of_key faults.Unmatched reading no gives
 of_fault faults.Full reading no gives = of_key faults.Full reading no gives
 

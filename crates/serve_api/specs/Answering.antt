@@ -17,6 +17,7 @@ use Rattle.api_requests.specs.declared.fault.RequestFault.{RequestFault}
 use Rattle.api_requests.specs.declared.reply.Outcome.{Outcome}
 use Rattle.api_requests.specs.declared.reply.Reply.{Reply}
 use Rattle.api_requests.specs.declared.request.Request as backend
+use Rattle.serve_api.specs.Events.{AreEventsTold}
 use Rattle.serve_api.specs.Filling.{Fills}
 use Rattle.serve_api.specs.Paging.{IsPageTold, IsPutOut, TellsFigures}
 use Rattle.serve_api.specs.Reading.{IsReadAs}
@@ -69,6 +70,7 @@ Acts b old (asks.Methods place) told new = Declines old (allowed_in place) told 
 Acts b old (asks.Page after limit) told new = (new ≡ old) × IsPageTold b.Here b.shards after limit told
 Acts b old (asks.Disconnect key topic seconds) told new = (new ≡ old) × IsPutOut told
 Acts b old asks.Figures told new = (new ≡ old) × IfOk told TellsFigures
+Acts b old (asks.Events after) told new = (new ≡ old) × AreEventsTold b.Here b.shards after told
 
 -- what is done for a request that was read so: where it is refused, nothing
 abbrev pub ActsOn : Terms → Hands → Result Asked RequestFault → Result Reply AllocError → Hands → Type 0

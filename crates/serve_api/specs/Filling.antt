@@ -5,6 +5,8 @@ use Rattle.http1.specs.Fields.{Header}
 use Rattle.http_server.specs.Response.{IsResponse}
 use Rattle.http_server.specs.declared.response.Response.{Response}
 use Rattle.api_requests.specs.Replies.{Told, reply_view}
+use Rattle.api_requests.specs.declared.reply.Kind.{Kind}
+use Rattle.api_requests.specs.declared.reply.Kind.TheVariants.{Json, Events}
 use Rattle.api_requests.specs.declared.reply.Reply.{Reply}
 
 -- a status of HTTP
@@ -23,13 +25,17 @@ allow_by None = []
 allow_by (Some methods) = (codes "allow", methods) ∷ []
 
 -- of what kind the text is, where there is one
-abbrev pub type_by : List ℕ → List Header
-type_by [] = []
-type_by (b ∷ bs) = (codes "content-type", codes "application/json") ∷ []
+abbrev pub type_in : Kind → List ℕ
+type_in Json = codes "application/json"
+type_in Events = codes "text/event-stream"
+
+abbrev pub type_by : Kind → List ℕ → List Header
+type_by kind [] = []
+type_by kind (b ∷ bs) = (codes "content-type", type_in kind) ∷ []
 
 -- the response is this answer
 abbrev pub IsFilled : Told → Response → Type 0
-IsFilled t r = IsResponse (status_in t.status) (fields_by t.status ++ (allow_by t.methods ++ type_by t.body)) t.body r
+IsFilled t r = IsResponse (status_in t.status) (fields_by t.status ++ (allow_by t.methods ++ type_by t.kind t.body)) t.body r
 
 -- it is a 503 without a text, where memory ran out
 abbrev pub IsShort : Response → Type 0

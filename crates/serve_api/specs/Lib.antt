@@ -3,6 +3,7 @@ pub mod Filling
 pub mod Sending
 pub mod Showing
 pub mod Paging
+pub mod Events
 pub mod Answering
 pub mod Reaching
 pub mod Fronting

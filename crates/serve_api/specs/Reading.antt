@@ -13,10 +13,15 @@ use Rattle.api_requests.specs.declared.request.Request as backend
 abbrev pub shown_by : Entries FieldValue → Option (List ℕ)
 shown_by headers = option_and_then (λ v. bearer_in v.bytes) (get headers (codes "authorization"))
 
+-- what the first field `Last-Event-ID` says, if it has one
+abbrev pub last_by : Entries FieldValue → Option (List ℕ)
+last_by headers = option_map (λ v. v.bytes) (get headers (codes "last-event-id"))
+
 -- the request says this
 pub record IsReadAs (r : Request (List ℕ)) (a : backend.Request) : Type 0 where
   pub method : a.method.now ≡ (head_of r).method
   pub path : a.path.now ≡ uri_path (head_of r).uri
   pub query : option_map (λ q. q.now) a.query ≡ uri_query (head_of r).uri
   pub shown : shown_in a ≡ shown_by (head_of r).headers
+  pub last : option_map (λ l. l.now) a.last ≡ last_by (head_of r).headers
   pub body : a.body.now ≡ body_of r

@@ -7,8 +7,8 @@ use crate::fronting::{is_front, show_front};
 use crate::house::House;
 use crate::reading::asked_in;
 use api_requests::{
-    Asked, Outcome, Reply, Request, RequestFault, allowed, ask, disconnected, figures, listed,
-    paged, published, published_all, refused, rendered,
+    Asked, Outcome, Position, Reply, Request, RequestFault, allowed, ask, disconnected, figures,
+    listed, paged, published, published_all, refused, rendered, streamed,
 };
 use bytes::Bytes;
 use hmac_keys::Keys;
@@ -16,8 +16,10 @@ use hook_registry::{PresenceHooks, Routes, render_state};
 use http_server::{Response, Service};
 use presence_base::{Dot, Json, Key, Row, Topic};
 use presence_journal::{Payload, SharedRows};
+use row_events::{Batch, RowsAbove};
 use serve_ports::Followed;
 use shard_pool::{Lanes, NoGate, Pool, PoolFault, Reply as PoolReply, Seat, Tried};
+use shout_links::LastNumber;
 use std::alloc::{AllocError, Global};
 use std::mem;
 use std::sync::Wait;
@@ -82,6 +84,7 @@ impl<'a, R: Wait, H: PresenceHooks, L: Lanes, P: House> Office<'a, R, H, L, P> {
     ghost use Rattle.api_requests.specs.Replies.{reply_view};
     ghost use Rattle.std.specs.Prelude.{option_map};
     ghost use Rattle.shard_pool.specs.Seats.{IsOfShardAt};
+    ghost use Rattle.serve_api.specs.Events.{AreBatches, AreEventsTold};
     ghost use Rattle.serve_api.specs.Paging.{IsPageTold, IsPutOut, TellsFigures, TellsPage};
     ghost use Rattle.serve_api.specs.Showing.{TellsRows};
 
@@ -150,6 +153,45 @@ impl<'a, R: Wait, H: PresenceHooks, L: Lanes, P: House> Office<'a, R, H, L, P> {
     {
         let metrics = self.house.metrics(self.alloc)?;
         figures(self.alloc, metrics.as_str())
+    }
+
+    // The newest entry of each shard.
+    fn newest(&self) -> Position {
+        let mut position = Position::START;
+        for shard in 0..self.pool.shards() {
+            let entry = self.pool.ask(self.rt, shard, &LastNumber);
+            position = position.moved(shard, entry);
+        }
+        position
+    }
+
+    // What came of the rows of each shard behind this position, as far as it is told at once.
+    fn batches(&self, after: Position) -> Result<Vec<Batch>, PoolFault>
+        ensures { IfOk result (λ bs. AreBatches (IsOfShardAt self.now.pool.now.own.name L.begins) self.now.pool.now.shards after 0 bs.items) }
+    {
+        let mut batches = Vec::new(self.alloc);
+        for shard in 0..self.pool.shards() {
+            let rows = RowsAbove {
+                alloc: self.alloc,
+                above: after.at(shard),
+            };
+            let batch = self.pool.ask(self.rt, shard, &rows)?;
+            batches.push(batch)?;
+        }
+        Ok(batches)
+    }
+
+    // What came of rows behind this position, or will from now on.
+    fn events(&self, after: Option<Position>) -> Result<Reply, AllocError>
+        ensures { AreEventsTold (IsOfShardAt self.now.pool.now.own.name L.begins) self.now.pool.now.shards after result }
+    {
+        let Some(after) = after else {
+            return streamed(self.alloc, self.newest(), &[]);
+        };
+        match self.batches(after) {
+            Ok(batches) => streamed(self.alloc, after, batches.as_slice()),
+            Err(fault) => refused(self.alloc, fault_of(fault)),
+        }
     }
 
     // The same of the rows of one key.
@@ -376,6 +418,7 @@ impl<'a, R: Wait, H: PresenceHooks, L: Lanes, P: House> Clerk<'a, R, H, L, P> {
             }
             Asked::Presence { topic, key } => self.present(topic, key.as_ref()),
             Asked::Figures => self.office.tell_figures(),
+            Asked::Events { after } => self.office.events(*after),
             Asked::Methods(place) => Ok(allowed(self.office.alloc, *place)),
             Asked::Page { after, limit } => self.office.topics(after.as_ref(), *limit),
             Asked::Disconnect {

@@ -2,9 +2,9 @@
 ghost use Rattle.std.specs.Prelude.{◌≡◌, ◌++◌, [], OnOk, option_map, string_bytes};
 ghost use Rattle.http_server.specs.Response.{IsBlank, IsResponse, fields_of};
 ghost use Rattle.api_requests.specs.Replies.{reply_view};
-ghost use Rattle.serve_api.specs.Filling.{Fills, IsFilled, allow_by, fields_by, status_in, type_by};
+ghost use Rattle.serve_api.specs.Filling.{Fills, IsFilled, allow_by, fields_by, status_in, type_by, type_in};
 
-use api_requests::Reply;
+use api_requests::{Kind, Reply};
 use bytes::Bytes;
 use http::StatusCode;
 use http::header::{ALLOW, CONTENT_TYPE, HeaderValue, RETRY_AFTER, WWW_AUTHENTICATE};
@@ -36,16 +36,26 @@ fn add_methods(methods: Option<&'static str>, response: &mut Response) -> Result
     }
 }
 
+// Of what type a text of a kind is.
+fn type_of(kind: Kind) -> HeaderValue
+    ensures { result.bytes ≡ type_in kind }
+{
+    match kind {
+        Kind::Json => HeaderValue::from_static("application/json"),
+        Kind::Events => HeaderValue::from_static("text/event-stream"),
+    }
+}
+
 // The text, where there is one.
-fn add_body(body: String, response: &mut Response) -> Result<(), AllocError>
-    ensures fields { OnOk result (fields_of response.new ≡ fields_of response.old ++ type_by (string_bytes body)) }
+fn add_body(kind: Kind, body: String, response: &mut Response) -> Result<(), AllocError>
+    ensures fields { OnOk result (fields_of response.new ≡ fields_of response.old ++ type_by kind (string_bytes body)) }
     ensures status { response.new.status ≡ response.old.status }
     ensures body { OnOk result (response.new.body.items ≡ response.old.body.items ++ string_bytes body) }
 {
     if body.is_empty() {
         return Ok(());
     }
-    response.add_header(CONTENT_TYPE, HeaderValue::from_static("application/json"))?;
+    response.add_header(CONTENT_TYPE, type_of(kind))?;
     response.body.push(Bytes::from_string(body)?)
 }
 
@@ -67,12 +77,13 @@ fn put(reply: Reply, response: &mut Response) -> Result<(), AllocError>
     let Reply {
         status,
         methods,
+        kind,
         body,
     } = reply;
     response.status = status_of(status);
     add_by_status(status, response)?;
     add_methods(methods, response)?;
-    add_body(body, response)
+    add_body(kind, body, response)
 }
 
 /// Makes it a 503 without a text.

@@ -1,7 +1,7 @@
 //! Requests of HTTP as requests of a backend.
 ghost use Rattle.std.specs.Prelude.{◌≡◌, option_map};
 ghost use Rattle.http.specs.Request.{head_of};
-ghost use Rattle.serve_api.specs.Reading.{IsReadAs, shown_by};
+ghost use Rattle.serve_api.specs.Reading.{IsReadAs, last_by, shown_by};
 
 use api_requests::Request;
 use bytes::Bytes;
@@ -18,6 +18,16 @@ fn shown_in(request: &http::Request<Bytes>) -> Option<&[u8]>
     }
 }
 
+// What the field `Last-Event-ID` says, where a request has it.
+fn last_in(request: &http::Request<Bytes>) -> Option<&[u8]>
+    ensures { option_map (λ l. l.now) result ≡ last_by (head_of request.now).headers }
+{
+    match request.headers().get("last-event-id") {
+        Some(value) => Some(value.as_bytes()),
+        None => None,
+    }
+}
+
 /// What a request of HTTP asks.
 pub(crate) fn asked_in(request: &http::Request<Bytes>) -> Request<'_>
     ensures { IsReadAs request.now result }
@@ -27,6 +37,7 @@ pub(crate) fn asked_in(request: &http::Request<Bytes>) -> Request<'_>
         path: request.uri().path(),
         query: request.uri().query(),
         shown: shown_in(request),
+        last: last_in(request),
         body: request.body().as_slice(),
     }
 }

@@ -65,6 +65,13 @@ macro_rules! at {
 }
 
 impl<G: Gate, L: Lanes> Pool<G, L> {
+    /// How many shards there are.
+    pub fn shards(&self) -> u32
+        ensures { result ≡ self.now.shards }
+    {
+        self.shards
+    }
+
     /// The number of the shard that has a topic.
     pub fn shard_of(&self, topic: &Topic) -> u32
         ensures shard { result ≡ shard_of topic.now self.now.shards }
