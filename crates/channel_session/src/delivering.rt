@@ -56,7 +56,7 @@ fn deliver_from<P: Port, H: PresenceHooks>(
         ) {
             Err(refusal) => Err(stop_of(refusal, false)),
             Ok(items) => {
-                match spoiling(before.add_items(alloc, dealing.hooks, topic, join, &items)) {
+                match spoiling(before.add_items(alloc, dealing.hooks, topic, join, items)) {
                     Err(stop) => Err(stop),
                     Ok(told) => {
                         let rest = deliver_from(dealing, topics, index + 1, port, told);

@@ -7,7 +7,9 @@ ghost use Rattle.channel_rules.specs.InForce.{joined_of};
 ghost use Rattle.channel_rules.specs.Said.{told, text_of};
 ghost use Rattle.channel_session.specs.Wording.{Frames, noted_by, worded_by};
 ghost use Rattle.channel_session.specs.Carrying.{AddsItems};
+ghost use Rattle.channel_session.specs.ItemTexts.{told_bytes};
 
+use crate::item_text::{Broadcast, BroadcastItem, ItemText};
 use channel_rules::Join;
 use hook_registry::{Notice, PresenceHooks, notices, render_diff, render_state};
 use phx_message::laws::pushes_are_written;
@@ -20,7 +22,7 @@ use std::alloc::{AllocError, Global};
 #[derive(Debug, Drop)]
 pub struct Delivery {
     /// One text for each item, in order of joining and then the oldest first.
-    pub texts: Vec<String>,
+    pub texts: Vec<ItemText>,
     /// One notice for each row that joined and then for each that left, diff by diff.
     pub notices: Vec<Notice>,
 }
@@ -88,12 +90,15 @@ fn plain_state_frame(
 }
 
 // The frame of a diff to which nothing is added.
-fn plain_diff_frame(alloc: Global, topic: &Topic, diff: &SharedDiff) -> Result<String, AllocError>
-    ensures { IfOk result (λ t. string_bytes t
-        ≡ text_of (broadcast_of topic.now (codes "presence_diff") (diff_of diff.now.joins diff.now.leaves))) }
+fn plain_diff_frame(topic: &Topic, diff: SharedDiff) -> Result<ItemText, AllocError>
+    ensures { IfOk result (λ t. told_bytes t
+        ≡ text_of (broadcast_of topic.now (codes "presence_diff") (diff_of diff.joins diff.leaves))) }
 {
     pushes_are_written();
-    push_text(alloc, &None, topic, "presence_diff", diff.payload())
+    Ok(ItemText::Broadcast(Broadcast {
+        topic: topic.clone()?,
+        item: BroadcastItem::Diff(diff),
+    }))
 }
 
 // The frame of a state: the rows' text alone, where nothing is added to them.
@@ -114,31 +119,34 @@ fn state_frame<H: PresenceHooks>(
     encode(alloc, &message)
 }
 
-// The frame of a diff: round the text that is shared, where nothing is added to it.
+// The frame of a diff: that of the broadcast, where nothing is added to it.
 fn diff_frame<H: PresenceHooks>(
     alloc: Global,
     hooks: &H,
     topic: &Topic,
     join: &Join,
-    diff: &SharedDiff,
-) -> Result<String, AllocError>
+    diff: SharedDiff,
+) -> Result<ItemText, AllocError>
     ensures { IfOk result (λ t. Frames H.PresenceHooks hooks.now (joined_of (topic.now, join.now))
-        (Item.Diff diff.now) (string_bytes t)) }
+        (Item.Diff diff) (told_bytes t)) }
 {
     if hooks.is_plain() {
-        return plain_diff_frame(alloc, topic, diff);
+        return plain_diff_frame(topic, diff);
     }
-    let message = diff_message(alloc, hooks, topic, join, diff)?;
-    encode(alloc, &message)
+    let message = diff_message(alloc, hooks, topic, join, &diff)?;
+    Ok(ItemText::Written(encode(alloc, &message)?))
 }
 
 // The frame of a shout on a topic.
-fn shout_frame(alloc: Global, topic: &Topic, shout: &SharedShout) -> Result<String, AllocError>
-    ensures { IfOk result (λ t. string_bytes t
-        ≡ text_of (broadcast_of topic.now (codes "shout") shout.now)) }
+fn shout_frame(topic: &Topic, shout: SharedShout) -> Result<ItemText, AllocError>
+    ensures { IfOk result (λ t. told_bytes t
+        ≡ text_of (broadcast_of topic.now (codes "shout") shout)) }
 {
     pushes_are_written();
-    push_text(alloc, &None, topic, "shout", shout.payload())
+    Ok(ItemText::Broadcast(Broadcast {
+        topic: topic.clone()?,
+        item: BroadcastItem::Shout(shout),
+    }))
 }
 
 // The frame that tells an item to the join of its topic.
@@ -147,15 +155,15 @@ fn item_frame<H: PresenceHooks>(
     hooks: &H,
     topic: &Topic,
     join: &Join,
-    item: &Item,
-) -> Result<String, AllocError>
+    item: Item,
+) -> Result<ItemText, AllocError>
     ensures { IfOk result (λ t. Frames H.PresenceHooks hooks.now (joined_of (topic.now, join.now))
-        item.now (string_bytes t)) }
+        item (told_bytes t)) }
 {
     match item {
-        Item::State(rows) => state_frame(alloc, hooks, topic, join, rows),
+        Item::State(rows) => Ok(ItemText::Written(state_frame(alloc, hooks, topic, join, &rows)?)),
         Item::Diff(diff) => diff_frame(alloc, hooks, topic, join, diff),
-        Item::Shout(shout) => shout_frame(alloc, topic, shout),
+        Item::Shout(shout) => shout_frame(topic, shout),
     }
 }
 
@@ -184,12 +192,12 @@ impl Delivery {
         hooks: &H,
         topic: &Topic,
         join: &Join,
-        item: &Item,
+        item: Item,
     ) -> Result<Delivery, AllocError>
-        ensures { AddsItems H.PresenceHooks hooks.now (joined_of (topic.now, join.now)) self (item.now ∷ []) result }
+        ensures { AddsItems H.PresenceHooks hooks.now (joined_of (topic.now, join.now)) self (item ∷ []) result }
     {
+        let mut noted = item_notices(alloc, hooks, topic, join, &item)?;
         let frame = item_frame(alloc, hooks, topic, join, item)?;
-        let mut noted = item_notices(alloc, hooks, topic, join, item)?;
         let mut delivery = self;
         delivery.texts.push(frame)?;
         delivery.notices.append(&mut noted)?;
@@ -203,9 +211,9 @@ impl Delivery {
         hooks: &H,
         topic: &Topic,
         join: &Join,
-        items: &[Item],
+        items: Vec<Item>,
     ) -> Result<Delivery, AllocError>
-        ensures { AddsItems H.PresenceHooks hooks.now (joined_of (topic.now, join.now)) self items.now result }
+        ensures { AddsItems H.PresenceHooks hooks.now (joined_of (topic.now, join.now)) self items.items result }
     {
         let mut delivery = self;
         for item in items {

@@ -1,5 +1,5 @@
 -- What a client gets of its session's texts.
-use Rattle.std.specs.Prelude.{ℕ, ◌==◌, Bool, false, List, [], ◌∷◌, Option, Some, None, if◌then◌else◌, Result, Ok, Err, codes}
+use Rattle.std.specs.Prelude.{ℕ, ◌==◌, ◌&&◌, not, Bool, true, false, is_some, List, [], ◌∷◌, Option, Some, None, if◌then◌else◌, Result, Ok, Err, codes}
 use Rattle.std.specs.List.{ends_with}
 use Rattle.phx_message.specs.Making.{broadcast_of}
 use Rattle.phx_message.specs.Reading.{decoded}
@@ -7,6 +7,8 @@ use Rattle.phx_message.specs.declared.message.Message.{Message}
 use Rattle.phx_message.specs.declared.message.MessageFault.{MessageFault}
 use Rattle.phx_message.specs.declared.message.TheConstants.Limits as the_limits
 use Rattle.number_texts.specs.Allowed.{all_told}
+use Rattle.number_texts.specs.declared.allowed.Numbers.{Numbers}
+use Rattle.number_texts.specs.declared.allowed.Numbers.TheVariants.{Whole, Any}
 use Rattle.channel_rules.specs.Rules.{kind_of}
 use Rattle.channel_rules.specs.Said.{text_of}
 use Rattle.client_settings.specs.Events.{is_own_by}
@@ -55,6 +57,14 @@ all_told_by given pid (text ∷ rest) = with_told (told_text given pid text) (al
 abbrev pub events_told : Option Names → ℕ → List (List ℕ) → List (List ℕ)
 events_told None pid texts = texts
 events_told (Some given) pid texts = all_told_by given pid texts
+
+abbrev pub is_whole : Numbers → Bool
+is_whole Whole = true
+is_whole Any = false
+
+-- whether a client gets each text as it is
+abbrev pub tells_as_is : Settings → Bool
+tells_as_is given = is_whole given.numbers && not (is_some given.events)
 
 -- what a client gets, whose session has this number
 abbrev pub told_by : Settings → ℕ → List (List ℕ) → List (List ℕ)

@@ -7,12 +7,15 @@ ghost use Rattle.phx_message.specs.Making.{broadcast_of};
 ghost use Rattle.channel_rules.specs.Said.{text_of};
 ghost use Rattle.client_settings.specs.Meaning.{IsPlain};
 ghost use Rattle.client_settings.specs.Kept.{seen_told, told_of};
-ghost use Rattle.client_settings.specs.Telling.{all_told_by, ends_as_kept, events_told, tells, told_by, told_text as told_of_text, with_told};
+ghost use Rattle.client_settings.specs.Telling.{all_told_by, ends_as_kept, events_told, tells, tells_as_is, told_by, told_text as told_of_text, with_told};
+ghost use Rattle.channel_session.specs.ItemTexts.{told_bytes};
 
 use crate::events::OwnEvents;
 use crate::kept::{Told, told_by};
 use crate::meaning::is_shout;
 use crate::settings::Settings;
+use channel_session::{ItemText, write_all};
+use number_texts::Numbers;
 use phx_message::laws::pushes_are_written;
 use phx_message::{Limits, Message, MessageFault, decode, push_text};
 use presence_base::Topic;
@@ -149,7 +152,44 @@ fn told_texts(
     }
 }
 
+// Texts as those of items.
+fn as_items(alloc: Global, texts: Vec<String>) -> Result<Vec<ItemText>, AllocError>
+    ensures { IfOk result (λ items. map told_bytes items.items ≡ map string_bytes texts.items) }
+{
+    let mut items = Vec::with_capacity(alloc, texts.len())?;
+    for text in texts {
+        items.push(ItemText::Written(text))?;
+    }
+    Ok(items)
+}
+
 impl Settings {
+    // Whether a client gets each text as it is.
+    fn tells_as_is(&self) -> bool
+        ensures { result ≡ tells_as_is self.now }
+    {
+        self.numbers == Numbers::Whole && self.events.is_none()
+    }
+
+    /// What a client gets of these texts of items, whose session has this number. By default it gets them as they are, none is
+    /// written, and no memory is asked for.
+    pub fn tell_items(
+        &self,
+        alloc: Global,
+        pid: u64,
+        texts: Vec<ItemText>,
+    ) -> Result<Vec<ItemText>, AllocError>
+        ensures told { IfOk result (λ told. map told_bytes told.items ≡ told_by self.now pid (map told_bytes texts.items)) }
+        ensures plain { IsPlain self.now → result ≡ Ok texts }
+    {
+        if self.tells_as_is() {
+            return Ok(texts);
+        }
+        let written = write_all(alloc, texts)?;
+        let told = self.tell(alloc, pid, written)?;
+        as_items(alloc, told)
+    }
+
     /// What a client gets of these texts, whose session has this number. By default it gets them as they are, and no memory
     /// is asked for.
     pub fn tell(

@@ -18,7 +18,8 @@ use node_log::Level;
 use node_system::{Watch, number_of, resident_bytes};
 use node_threads::Taker;
 use serve_connections::{
-    Client, Leavers, LongTexts, Moment, Stage, Worker, hold_stalled, mark_put_off, resume_recovered,
+    Client, Frames, Leavers, LongTexts, Moment, Stage, Worker, hold_stalled, mark_put_off,
+    resume_recovered,
 };
 use serve_metrics::{Checkpoint, Counts};
 use serve_ports::{Followed, Followers, Noted};
@@ -45,8 +46,8 @@ const IDLE_MILLISECONDS: u64 = 1_000;
 /// How long one wait lasts where only an end is to be asked for again, or clients that leave are read.
 const RETRY_MILLISECONDS: u64 = 20;
 
-/// What topics have new is looked at once in so long where much is under way, so that what comes meanwhile is delivered in
-/// one.
+/// What topics have new is looked at once in so long while clients have further messages, so that what comes meanwhile is
+/// delivered in one.
 const GATHER_MILLISECONDS: u64 = 2;
 
 /// How long one wait lasts while the worker reads nothing, in milliseconds.
@@ -79,13 +80,22 @@ fn stream_of(client: &Client<ClientSocket>) -> &ClientSocket {
     client.connection.socket.get_ref()
 }
 
+// Something may have come of a client, or it has ended its side.
+fn tell_news(client: &Client<ClientSocket>, closes: bool) {
+    if closes {
+        stream_of(client).closes();
+    } else {
+        stream_of(client).has_news();
+    }
+}
+
 // The connections that were ready at the last wait take the next turn, and read.
 fn mark_ready(watch: &Watch, worker: &mut Worker<ClientSocket>) {
     for event in watch.events() {
         if let Some(number) = number_of(event) {
             let token = number as usize;
             if let Some(client) = worker.with_token(token) {
-                stream_of(client).has_news();
+                tell_news(client, event.is_read_closed());
             }
             worker.mark(token);
         }
@@ -156,13 +166,14 @@ fn mark_ended(worker: &mut Worker<ClientSocket>, signing: Option<Signing<'_>>) {
 }
 
 // When a turn is taken.
-fn moment_of(milliseconds: u64, keys: &OwnKeys) -> Moment<'_>
+fn moment_of<'a>(milliseconds: u64, keys: &'a OwnKeys, frames: &'a Frames) -> Moment<'a>
     ensures time { result.milliseconds ≡ milliseconds }
     ensures signing { is_some result.signing ≡ is_some keys.now.keys }
 {
     Moment {
         milliseconds,
         signing: keys.signing(),
+        frames,
     }
 }
 
@@ -190,8 +201,6 @@ pub struct Bench<L: Lanes> {
     swept: u64,
     /// When those were that follow a topic which had something new.
     dealt: u64,
-    /// Whether what was looked at then was told by several turns.
-    crowded: bool,
     /// When the memory of the process was looked at last.
     weighed: u64,
     growth: Growth,
@@ -201,6 +210,8 @@ pub struct Bench<L: Lanes> {
     drain: Drain,
     farewell: Farewell,
     keys: OwnKeys,
+    /// The frames of what its connections were told last.
+    frames: Frames,
 }
 
 impl<L: Lanes> Drop for Bench<L> {
@@ -220,7 +231,6 @@ impl<L: Lanes> Drop for Bench<L> {
             now: _,
             swept: _,
             dealt: _,
-            crowded: _,
             weighed: _,
             growth: _,
             received: _,
@@ -228,6 +238,7 @@ impl<L: Lanes> Drop for Bench<L> {
             drain,
             farewell: _,
             keys,
+            frames,
         } = self;
         drop(seat);
         drop(rations);
@@ -239,6 +250,7 @@ impl<L: Lanes> Drop for Bench<L> {
         drop(long_texts);
         drop(drain);
         drop(keys);
+        drop(frames);
     }
 }
 
@@ -271,7 +283,6 @@ impl<L: Lanes> Bench<L> {
             now: 0,
             swept: 0,
             dealt: 0,
-            crowded: false,
             weighed: 0,
             growth: Growth::new(),
             received: Received::new(),
@@ -279,6 +290,7 @@ impl<L: Lanes> Bench<L> {
             drain: Drain::new(alloc),
             farewell: Farewell::new(),
             keys,
+            frames: Frames::new(alloc),
         }
     }
 
@@ -301,7 +313,6 @@ impl<L: Lanes> Bench<L> {
             now: _,
             swept: _,
             dealt: _,
-            crowded: _,
             weighed: _,
             growth: _,
             received: _,
@@ -309,6 +320,7 @@ impl<L: Lanes> Bench<L> {
             drain,
             farewell: _,
             keys,
+            frames,
         } = self;
         drop(rations);
         drop(worker);
@@ -319,13 +331,14 @@ impl<L: Lanes> Bench<L> {
         drop(long_texts);
         drop(drain);
         drop(keys);
+        drop(frames);
         seat
     }
 
     // Takes the connections that wait. Where clients sign in, each does by the token that it has shown.
     fn take_in<R: Wait, H>(&mut self, rt: &R, server: &Server<'_, H, L>) {
         let served = self.worker.len();
-        let now = moment_of(self.now, &self.keys);
+        let now = moment_of(self.now, &self.keys, &self.frames);
         let _later = self.worker.take_in(rt, server.alloc, now, server.settings);
         server
             .counts
@@ -358,17 +371,15 @@ impl<L: Lanes> Bench<L> {
             return looked;
         }
         self.dealt = self.now;
-        self.crowded = told.len() > 1;
         self.send(&server.counts, false);
         let topics = joined_topics(server.alloc, told.as_slice());
         mark_followers(&mut self.worker, &self.followers, &topics);
         true
     }
 
-    // For how many milliseconds more what the workers tell is gathered: for none where one client at a time says something,
-    // so that each waits for it.
+    // For how many milliseconds more what the workers tell is gathered: for none once no client has a further message.
     fn gathers_for(&self, busy: bool) -> u64 {
-        if !busy && !self.crowded {
+        if !busy {
             return 0;
         }
         GATHER_MILLISECONDS.saturating_sub(self.now.saturating_sub(self.dealt))
@@ -405,7 +416,7 @@ impl<L: Lanes> Bench<L> {
     ) -> Served {
         let mut port = port_at(rt, server, &mut self.seat, &mut self.rations);
         let (routes, hooks) = (server.routes, server.hooks);
-        let now = moment_of(self.now, &self.keys);
+        let now = moment_of(self.now, &self.keys, &self.frames);
         self.worker
             .turn(server.alloc, &mut port, routes, hooks, now);
         served_by(server, port, self.now)
@@ -418,14 +429,14 @@ impl<L: Lanes> Bench<L> {
         server: &Server<'_, H, L>,
     ) -> Served {
         let mut port = port_at(rt, server, &mut self.seat, &mut self.rations);
-        self.worker.deliver(server.alloc, &mut port, server.hooks);
+        self.worker.deliver(&mut port, server.hooks, &self.frames);
         served_by(server, port, self.now)
     }
 
     // Serves each connection that is ready, but for those whose clients take nothing, and of those with long texts some:
     // what was noted.
     fn serve<R: Wait, H: PresenceHooks>(&mut self, rt: &R, server: &Server<'_, H, L>) -> Noted {
-        let now = moment_of(self.now, &self.keys);
+        let now = moment_of(self.now, &self.keys, &self.frames);
         mark_ended(&mut self.worker, now.signing);
         self.stalls |= hold_stalled(&mut self.worker, now);
         self.long_texts.hold(&mut self.worker, now);
@@ -438,7 +449,7 @@ impl<L: Lanes> Bench<L> {
     // Delivers what waits for each connection, but for those whose clients take nothing, and reads nothing: what was noted.
     fn deliver<R: Wait, H: PresenceHooks>(&mut self, rt: &R, server: &Server<'_, H, L>) -> Noted {
         self.worker.mark_all();
-        let now = moment_of(self.now, &self.keys);
+        let now = moment_of(self.now, &self.keys, &self.frames);
         self.stalls |= hold_stalled(&mut self.worker, now);
         let served = self.deliver_ready(rt, server);
         self.noted_in(rt, server, served)
@@ -585,8 +596,8 @@ impl<L: Lanes> Bench<L> {
     // What its connections have to do next.
     fn outlook(&self) -> Outlook {
         let mut outlook = Outlook::Idle;
-        for place in 0..self.worker.len() {
-            match self.worker.due_at(place).map(outlook_of) {
+        for place in 0..self.worker.awake() {
+            match self.worker.awake_at(place).map(outlook_of) {
                 Some(Outlook::Busy) => return Outlook::Busy,
                 Some(Outlook::Ending) => outlook = Outlook::Ending,
                 Some(Outlook::Idle) | None => {}
@@ -604,8 +615,8 @@ impl<L: Lanes> Bench<L> {
     // clients that were told so: the place of the first of them. Those that were put out are told now.
     fn see_off(&mut self, counts: &Counts) -> usize {
         let first = self.leavers.len();
-        for place in 0..self.worker.len() {
-            let Some(client) = self.worker.due_at(place) else {
+        for place in 0..self.worker.awake() {
+            let Some(client) = self.worker.awake_at(place) else {
                 continue;
             };
             if let Stage::Over(cause) = client.connection.stage {
@@ -646,8 +657,6 @@ impl<L: Lanes> Bench<L> {
         let outlook = self.outlook();
         if outlook == Outlook::Busy {
             0
-        } else if self.gathers_for(false) > 0 {
-            self.gathers_for(false)
         } else if outlook == Outlook::Ending || !self.leavers.is_empty() {
             RETRY_MILLISECONDS
         } else if self.farewell.is_on() {
@@ -674,6 +683,7 @@ impl<L: Lanes> Bench<L> {
             return;
         }
         self.swept = self.now;
+        self.frames.forget();
         mark_each(&mut self.worker);
         self.received.count(&self.worker, &server.counts);
         self.followers = followers_of(server.alloc, &self.worker);

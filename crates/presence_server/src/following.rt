@@ -56,8 +56,8 @@ pub(crate) fn add_newcomers(
     worker: &Worker<ClientSocket>,
     topics: &Followed,
 ) {
-    for place in 0..worker.len() {
-        if let Some(client) = worker.due_at(place) {
+    for place in 0..worker.awake() {
+        if let Some(client) = worker.awake_at(place) {
             followers.add_joined_of(alloc, &client.connection.session, topics, client.token);
         }
     }

@@ -13,6 +13,7 @@ use Rattle.channel_rules.specs.InForce.{InForce}
 use Rattle.channel_rules.specs.Said.{Said}
 use Rattle.presence_journal.specs.declared.limits.TheConstants.{MAX_TAKEN}
 use Rattle.presence_stdio.specs.Local.{LocalStep, played}
+use Rattle.channel_session.specs.ItemTexts.{told_bytes}
 use Rattle.channel_session.specs.Ran.{EndedSo, texts_in}
 use Rattle.channel_rules.specs.Rules.{End, answers, full, memory}
 use Rattle.channel_session.specs.declared.fault.SessionFault.{SessionFault}
@@ -63,13 +64,13 @@ module _ (v : Voice) where
   says_so speech text notes o t n s = rw (t, n) s
 
   -- texts went out, and a delivery with them
-  pub tells_delivery : (st : State) (text : List ℕ) (session : InForce) (shard : History) (d : Delivery) (o : Output) → Dealt v st.session st.shard shard session (Ok d) → o.text.items ≡ text ++ printed (texts_in d.texts)
+  pub tells_delivery : (st : State) (text : List ℕ) (session : InForce) (shard : History) (d : Delivery) (o : Output) → Dealt v st.session st.shard shard session (Ok d) → o.text.items ≡ text ++ printed (map told_bytes d.texts.items)
       → o.notes.items ≡ printed d.notices.items → o.fault ≡ None → TellsDelivery v st text (record { routes = st.routes; session = session; shard = shard }) o
   tells_delivery st text session shard d o dealt t n f said texts w e =
       told_is _ _ _ o (delivered_so st.routes (answering said) st.session st.shard shard session dealt.said dealt.delivered)
       (record {
-        says = says_so (and_then (answering said) (dealing dealt.said)) (text ++ printed (texts_in d.texts)) (printed d.notices.items) o t n
-            (says_then v (answering said) (dealing dealt.said) text [] (printed (texts_in d.texts)) (printed d.notices.items) (says_answer v said texts text w e) (says_dealing v dealt.said (texts_in d.texts) d.notices.items dealt.carries.texts dealt.carries.notices));
+        says = says_so (and_then (answering said) (dealing dealt.said)) (text ++ printed (map told_bytes d.texts.items)) (printed d.notices.items) o t n
+            (says_then v (answering said) (dealing dealt.said) text [] (printed (map told_bytes d.texts.items)) (printed d.notices.items) (says_answer v said texts text w e) (says_dealing v dealt.said (map told_bytes d.texts.items) d.notices.items dealt.carries.texts dealt.carries.notices));
         next = rw f refl;
       })
 

@@ -5,7 +5,7 @@ ghost use Rattle.presence_stdio.specs.Session.{printed, voice_of, AnsweredBy, De
 use crate::fault::LineFault;
 use crate::local_port::LocalPort;
 use crate::reading::text_of_line;
-use channel_session::{Channels, Delivery, Session, SessionFault, deliver, run_text};
+use channel_session::{Channels, Delivery, Session, SessionFault, deliver, run_text, write_all};
 use hook_registry::{Notice, PresenceHooks, Routes};
 use phx_message::Limits;
 use presence_base::Replica;
@@ -161,9 +161,9 @@ impl LocalSession {
         ensures { IfOk result (λ o. TellsDelivery (voice_of H.PresenceHooks hooks.now) self.old text.items self.new o) }
     {
         match deliver_over(alloc, &mut self.session, &mut self.shard, hooks) {
-            Ok(delivery) => Ok(Output {
-                text: add_lines(alloc, text, &delivery.texts)?,
-                notes: note_lines(alloc, &delivery.notices)?,
+            Ok(Delivery { texts, notices }) => Ok(Output {
+                text: add_lines(alloc, text, &write_all(alloc, texts)?)?,
+                notes: note_lines(alloc, &notices)?,
                 fault: None,
             }),
             Err(SessionFault::ShardFull) => Ok(Output {

@@ -9,7 +9,7 @@ use Rattle.serve_connections.specs.declared.moment.Moment.{Moment}
 use Rattle.serve_connections.specs.Turning.{Around}
 use Rattle.serve_connections.specs.Working.{Serves, Delivers, SendsIf, ended_at, goes_on, has_ended}
 use Rattle.serve_connections.specs.Places.{AreKept, AreLeft, left, served}
-use Rattle.serve_connections.specs.Resting.{AreAtRest, FindsDue, HasRoom, holds_at, is_noted, rests, rests_at}
+use Rattle.serve_connections.specs.Resting.{AreAtRest, HasRoom, KeepsNotes, holds_at, is_noted, rests, rests_at}
 use Rattle.serve_connections.proofs.Lists.{ChainedTo, PairwiseTo}
 use Rattle.serve_connections.proofs.Places.{chained_over, pairwise_over, some_token}
 use Rattle.serve_connections.proofs.LeavingLemmas.{filled}
@@ -24,6 +24,17 @@ woken_here : (notes : List Bool) (k : ℕ) → is_noted (slice_set notes k false
 woken_here [] k = refl
 woken_here (n ∷ ns) zero = refl
 woken_here (n ∷ ns) (suc k) = woken_here ns k
+
+keeps_set : (notes : List Bool) (key k : ℕ) → is_noted notes k ≡ true → is_noted (slice_set notes key true) k ≡ true
+keeps_set [] key k n = n
+keeps_set (x ∷ xs) zero zero n = refl
+keeps_set (x ∷ xs) zero (suc k) n = n
+keeps_set (x ∷ xs) (suc j) zero n = n
+keeps_set (x ∷ xs) (suc j) (suc k) n = keeps_set xs j k n
+
+-- what was noted stays so
+pub keeps_more : (first notes : List Bool) (key : ℕ) → KeepsNotes first notes → KeepsNotes first (slice_set notes key true)
+keeps_more first notes key h k n = keeps_set notes key k (h k n)
 
 set_there : (notes : List Bool) (j k : ℕ) (b : Bool) → j ≢ k → is_noted (slice_set notes j b) k ≡ is_noted notes k
 set_there [] j k b d = refl
@@ -67,11 +78,6 @@ module _ {S : Type 0} where
   resting_holds false o e = refl
   resting_holds true None e = refl
   resting_holds true (Some c) e = e
-
-  -- the connection that is at a place is found there
-  pub finds : (o : Option (Client S)) → FindsDue o o
-  finds None = refl
-  finds (Some c) = refl
 
   -- ---- a connection is led on
 

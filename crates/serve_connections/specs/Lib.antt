@@ -14,3 +14,4 @@ pub mod Places
 pub mod Resting
 pub mod Serving
 pub mod PuttingOut
+pub mod Frames

@@ -10,3 +10,7 @@ module _ {S : Type 0} {reads : ReadGhosts S} {writes : WriteGhosts S} where
   -- its connections, in order of their numbers
   abbrev pub served_by : Worker S reads writes → List (Client S)
   served_by w = served w.clients w.order.items
+
+  -- those that may have something to do, in order of their numbers
+  abbrev pub awake_by : Worker S reads writes → List (Client S)
+  awake_by w = served w.clients w.awake.items

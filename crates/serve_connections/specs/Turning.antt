@@ -1,9 +1,10 @@
 -- One turn of a connection: what was read, what its session said to that, and what went out.
-use Rattle.std.specs.Prelude.{◌≡◌, ◌⊎◌, ◌+◌, ◌^◌, ℕ, min, Bool, true, false, ◌||◌, ◌&&◌, not, ◌-◌, ◌==◌, if◌then◌else◌, leb, List, length, [], ◌∷◌, vec_len, IfOk, IfErr, is_ok, is_some, Option, Some, None, Result, Ok, Err, String, Vec}
+use Rattle.std.specs.Prelude.{◌≡◌, ◌⊎◌, ◌+◌, ◌^◌, ℕ, min, Bool, true, false, ◌||◌, ◌&&◌, not, ◌-◌, ◌==◌, if◌then◌else◌, leb, List, length, map, [], ◌∷◌, vec_len, IfOk, IfErr, is_ok, is_some, Option, Some, None, Result, Ok, Err, String, Vec}
 use Rattle.std.specs.Global.{Global}
 use Rattle.channel_session.specs.Delivery.{DeliveredBy}
 use Rattle.channel_session.specs.declared.frames.Delivery.{Delivery}
 use Rattle.channel_session.specs.Ending.{EndedBy}
+use Rattle.channel_session.specs.ItemTexts.{told_bytes}
 use Rattle.channel_session.specs.Ran.{texts_in}
 use Rattle.channel_session.specs.declared.fault.SessionFault.{SessionFault}
 use Rattle.channel_session.specs.declared.fault.SessionFault.TheVariants.{Failed, OutOfMemory as OutOfMemoryFault}
@@ -72,7 +73,7 @@ ran_texts (Ok texts) = Ok (texts_in texts)
 ran_texts (Err fault) = Err fault
 
 abbrev pub dealt_texts : Result Delivery SessionFault → Result (List (List ℕ)) SessionFault
-dealt_texts (Ok delivery) = Ok (texts_in delivery.texts)
+dealt_texts (Ok delivery) = Ok (map told_bytes delivery.texts.items)
 dealt_texts (Err fault) = Err fault
 
 -- this is said where the session says nothing

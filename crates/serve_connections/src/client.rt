@@ -6,6 +6,7 @@ ghost use Rattle.serve_connections.specs.PuttingOut.{SeesOneOut, put_out_client}
 ghost use Rattle.serve_connections.specs.Working.{Delivers, SendsIf, Serves, StopsOne, has_ended, is_ending, is_over, readied, stays_ready as stays_ready_in, unreadied};
 
 use crate::connection::{Connection, Progress, Stage};
+use crate::frames::Frames;
 use crate::moment::Moment;
 use channel_rules::Port;
 use hook_registry::{PresenceHooks, Routes};
@@ -82,12 +83,12 @@ impl<S: Read + Write + Drop> Client<S> {
     }
 
     /// A turn that reads nothing, if the connection is ready, which it stays.
-    pub fn deliver<P: Port, H: PresenceHooks>(&mut self, alloc: Global, port: &mut P, hooks: &H)
+    pub fn deliver<P: Port, H: PresenceHooks>(&mut self, port: &mut P, hooks: &H, frames: &Frames)
         ensures { Delivers (around S.remaining S.contents P.step H.PresenceHooks hooks.now)
             self.old self.new port.old port.new }
     {
         if self.ready {
-            let _progress = self.connection.deliver(alloc, port, hooks);
+            let _progress = self.connection.deliver(port, hooks, frames);
             self.unsent = true;
         }
     }

@@ -6,6 +6,7 @@ ghost use Rattle.tungstenite.specs.Socket.{Flushed};
 ghost use Rattle.serve_connections.specs.Hearing.{is_message};
 ghost use Rattle.serve_connections.specs.Turning.{around, Acts, AnswersText, AsksIf, BearsSilence, ClosesFor, Continues, Deals, Delivers, behind_flush, broken_off, EndsSession, Responds, Serves, ServesIf, Flushes, Pings, StopsServing, TakesDelivery, TakesTurn, Tells, Turns, dealt, dealt_texts, is_owed_ping, may_have_more, patience, progress_of as progress_in, ran_texts, said_for as said_in_place};
 ghost use Rattle.channel_session.specs.Delivery.{DeliveredBy};
+ghost use Rattle.channel_session.specs.ItemTexts.{told_bytes};
 ghost use Rattle.channel_session.specs.Ran.{RanBy};
 ghost use Rattle.channel_rules.specs.Said.{Worded, Noted};
 ghost use Rattle.channel_pieces.specs.Piecewise.{Piecewise};
@@ -15,13 +16,14 @@ ghost use Rattle.serve_connections.specs.PuttingOut.{SeesOut, put_out as put_out
 ghost use Rattle.serve_sockets.specs.declared.web_socket.TheConstants.{MAX_WAITING};
 
 use crate::cause::{Cause, cause_of, close_code, close_reason};
+use crate::frames::Frames;
 use crate::hearing::{Heard, hear};
 use crate::moment::Moment;
 use crate::pieces::{deliver_over, run_over};
 use crate::sparing::MAX_UNSENT;
 use channel_pieces::{PiecewisePort, Telling};
 use channel_rules::Port;
-use channel_session::{Channels, Delivery, Session, SessionFault, end};
+use channel_session::{Channels, Delivery, ItemText, Session, SessionFault, end};
 use client_settings::{Meaning, Reading, Settings};
 use hook_registry::{PresenceHooks, Routes};
 use phx_message::Limits;
@@ -370,11 +372,25 @@ impl<S: Read + Write + Drop, K: MaskKeys + Drop> Connection<S, K> {
         }
     }
 
+    // Puts what a client of this number gets of the texts of items in what waits to be sent.
+    fn send_items(&mut self, frames: &Frames, pid: u64, texts: Vec<ItemText>) -> Result<(), Cause>
+        ensures sent { Tells S.contents self.old.settings pid self.old.socket self.new.socket (Ok (map told_bytes texts.items)) result }
+        ensures kept { self.new ≡ record self.old { socket = self.new.socket } }
+    {
+        let Ok(texts) = self.settings.tell_items(frames.alloc(), pid, texts) else {
+            return Err(cause_of(&Error::OutOfMemory));
+        };
+        match frames.queue(&mut self.socket, texts.as_slice()) {
+            Ok(()) => Ok(()),
+            Err(lost) => Err(cause_of(&lost)),
+        }
+    }
+
     // Puts the texts of a delivery in what waits to be sent, where so many bytes more might have been taken: whether more
     // may wait, as where a state is being told, or was before, so that nothing else was taken.
     fn send_dealt(
         &mut self,
-        alloc: Global,
+        frames: &Frames,
         pid: u64,
         delivery: Result<Delivery, SessionFault>,
         left: usize,
@@ -389,7 +405,7 @@ impl<S: Read + Write + Drop, K: MaskKeys + Drop> Connection<S, K> {
                 drop(notices);
                 let untold = telling || self.telling.is_under_way();
                 let more = texts.len() >= MAX_DEALT as usize || left == 0 || untold;
-                match self.send(alloc, pid, texts) {
+                match self.send_items(frames, pid, texts) {
                     Ok(()) => Ok(more),
                     Err(cause) => Err(cause),
                 }
@@ -422,9 +438,9 @@ impl<S: Read + Write + Drop, K: MaskKeys + Drop> Connection<S, K> {
     // Delivers what waits, once, until so much waits to be sent that nothing further is taken: whether more may wait.
     fn deal<P: Port, H: PresenceHooks>(
         &mut self,
-        alloc: Global,
         port: &mut P,
         hooks: &H,
+        frames: &Frames,
     ) -> Result<bool, Cause>
         ensures { Deals (around S.remaining S.contents P.step H.PresenceHooks hooks.now)
             self.old self.new port.old port.new result }
@@ -432,16 +448,16 @@ impl<S: Read + Write + Drop, K: MaskKeys + Drop> Connection<S, K> {
         let pid = self.session.pid();
         let room = MAX_UNSENT.saturating_sub(self.socket.waiting());
         let telling = self.telling.is_under_way();
-        let (delivery, left) = self.take(alloc, port, hooks, room);
-        self.send_dealt(alloc, pid, delivery, left, telling)
+        let (delivery, left) = self.take(frames.alloc(), port, hooks, room);
+        self.send_dealt(frames, pid, delivery, left, telling)
     }
 
     // Goes on behind a message with a delivery.
     fn go_on<P: Port, H: PresenceHooks>(
         &mut self,
-        alloc: Global,
         port: &mut P,
         hooks: &H,
+        frames: &Frames,
         came: bool,
         first: Result<(), Cause>,
     ) -> Result<bool, Cause>
@@ -450,7 +466,7 @@ impl<S: Read + Write + Drop, K: MaskKeys + Drop> Connection<S, K> {
     {
         match first {
             Err(cause) => Err(cause),
-            Ok(()) => match self.deal(alloc, port, hooks) {
+            Ok(()) => match self.deal(port, hooks, frames) {
                 Ok(more) => Ok(came || more),
                 Err(cause) => Err(cause),
             },
@@ -471,7 +487,7 @@ impl<S: Read + Write + Drop, K: MaskKeys + Drop> Connection<S, K> {
     {
         let heard = hear(&mut self.socket);
         let first = self.respond(alloc, port, routes, hooks, now, &heard);
-        self.go_on(alloc, port, hooks, heard.is_message(), first)
+        self.go_on(port, hooks, now.frames, heard.is_message(), first)
     }
 
     // Does so where its client may go on.
@@ -574,18 +590,18 @@ impl<S: Read + Write + Drop, K: MaskKeys + Drop> Connection<S, K> {
     // A turn of an open connection that reads nothing.
     fn deliver_open<P: Port, H: PresenceHooks>(
         &mut self,
-        alloc: Global,
         port: &mut P,
         hooks: &H,
+        frames: &Frames,
     ) -> Progress
         ensures { TakesDelivery (around S.remaining S.contents P.step H.PresenceHooks hooks.now)
             self.old self.new port.old port.new result }
     {
-        match self.deal(alloc, port, hooks) {
+        match self.deal(port, hooks, frames) {
             Ok(more) => progress_of(more),
             Err(cause) => {
                 self.close(cause);
-                self.end_session(alloc, port, cause)
+                self.end_session(frames.alloc(), port, cause)
             }
         }
     }
@@ -594,16 +610,16 @@ impl<S: Read + Write + Drop, K: MaskKeys + Drop> Connection<S, K> {
     /// socket until it is flushed. The session's end is asked for as in any other turn.
     pub fn deliver<P: Port, H: PresenceHooks>(
         &mut self,
-        alloc: Global,
         port: &mut P,
         hooks: &H,
+        frames: &Frames,
     ) -> Progress
         ensures { Delivers (around S.remaining S.contents P.step H.PresenceHooks hooks.now)
             self.old.stage self.old self.new port.old port.new result }
     {
         match self.stage {
-            Stage::Open => self.deliver_open(alloc, port, hooks),
-            Stage::Ending(cause) => self.end_session(alloc, port, cause),
+            Stage::Open => self.deliver_open(port, hooks, frames),
+            Stage::Ending(cause) => self.end_session(frames.alloc(), port, cause),
             Stage::Over(_) => Progress::Over,
         }
     }

@@ -43,8 +43,8 @@ impl LongTexts {
     // The number of the first client that goes on: behind the last that did, or else before it. 0 where none would.
     fn next(&self, worker: &Worker<ClientSocket>, now: Moment<'_>) -> u64 {
         let mut first = 0;
-        for place in 0..worker.len() {
-            let Some(client) = worker.due_at(place) else {
+        for place in 0..worker.awake() {
+            let Some(client) = worker.awake_at(place) else {
                 continue;
             };
             if !has_long_text(client, now) {
@@ -70,8 +70,8 @@ impl LongTexts {
         let next = self.next(worker, now);
         self.last = 0;
         let mut going = 0;
-        for place in 0..worker.len() {
-            let Some(client) = worker.due_at(place) else {
+        for place in 0..worker.awake() {
+            let Some(client) = worker.awake_at(place) else {
                 continue;
             };
             if !has_long_text(client, now) {

@@ -1,4 +1,5 @@
 //! When a turn is taken.
+use crate::frames::Frames;
 use tokens::Signing;
 
 /// When a turn is taken.
@@ -8,4 +9,6 @@ pub struct Moment<'a> {
     pub milliseconds: u64,
     /// How clients sign in then, where they have to.
     pub signing: Option<Signing<'a>>,
+    /// The frames that are made for all connections of the worker.
+    pub frames: &'a Frames,
 }

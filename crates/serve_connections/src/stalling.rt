@@ -68,8 +68,10 @@ pub fn hold_stalled(worker: &mut Worker<ClientSocket>, now: Moment<'_>) -> bool
     ensures { OnlyMarks (served_by worker.old) (served_by worker.new) }
 {
     let mut some = false;
-    for place in 0..worker.len() {
-        let held = worker.due_at(place).and_then(|client| stalled(client, now));
+    for place in 0..worker.awake() {
+        let held = worker
+            .awake_at(place)
+            .and_then(|client| stalled(client, now));
         if let Some(token) = held {
             worker.hold(token);
             some = true;
@@ -103,8 +105,8 @@ pub fn resume_recovered(worker: &mut Worker<ClientSocket>, now: u64) -> bool
 pub fn mark_put_off(worker: &mut Worker<ClientSocket>)
     ensures { OnlyMarks (served_by worker.old) (served_by worker.new) }
 {
-    for place in 0..worker.len() {
-        if let Some(client) = worker.due_at(place) {
+    for place in 0..worker.awake() {
+        if let Some(client) = worker.awake_at(place) {
             let token = client.token;
             if stream_of(client).is_put_off() {
                 worker.mark(token);

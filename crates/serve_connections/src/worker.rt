@@ -1,16 +1,17 @@
 //! The connections of a worker.
-ghost use Rattle.std.specs.Prelude.{◌≡◌, ◌≤◌, ◌&&◌, [], false, filter, length, map, not, option_copied, slice_get, IfOk};
+ghost use Rattle.std.specs.Prelude.{◌≡◌, ◌≤◌, [], false, filter, length, map, option_copied, slice_get, slice_set, vec_capacity, IfOk};
 ghost use Rattle.crossbeam_queue.specs.Passes.{view};
 ghost use Rattle.slab.specs.Slab.{get};
 ghost use Rattle.serve_connections.specs.Turning.{around};
 ghost use Rattle.serve_connections.specs.PuttingOut.{SeesOutAt, put_out_at};
 ghost use Rattle.serve_connections.specs.declared.worker.TheConstants.{MAX_CONNECTIONS};
 ghost use Rattle.serve_connections.specs.Places.{AreKept, AreLeft, DeliversKeys, ServesKeys, kept_prop, served};
-ghost use Rattle.serve_connections.specs.Resting.{AreAtRest, FindsDue, is_noted, rest_prop, rests_at};
+ghost use Rattle.serve_connections.specs.Resting.{AreAtRest, AreAwake, KeepsNotes, OthersRest, Wakes, awake_prop, number_at as number_in, rest_prop, rests_at};
 ghost use Rattle.serve_connections.specs.Working.{DeliversAll, EndsAt, NoneLost, Pairwise, RisesBetween, Sends, SendsAll, Serves, ServesAll, StopsAll, StopsAt, TakesIn, TakesOne, ended_at, goes_on, held, marked, readied, rises_prop};
 
 use crate::client::Client;
 use crate::connection::Connection;
+use crate::frames::Frames;
 use crate::moment::Moment;
 use crate::resting::Resting;
 use channel_rules::Port;
@@ -41,11 +42,15 @@ pub struct Worker<S: Read + Write + Drop> {
     clients: Slab<Client<S>>,
     /// The key of each connection, in order of their numbers.
     order: Vec<usize>,
+    /// The same, without those that have nothing to do.
+    awake: Vec<usize>,
     /// Which connections have nothing to do, so that no turn or flush has to look at them.
     resting: Resting,
     taker: Taker<WebSocket<S, NoMask>>,
     ghost kept: { AreKept clients order.items } by { kept_prop clients order.items },
     ghost at_rest: { AreAtRest clients resting.notes.items order.items } by { rest_prop clients resting.notes.items order.items },
+    ghost listed: { AreAwake resting.notes.items order.items awake.items } by { awake_prop resting.notes.items order.items awake.items },
+    ghost room: { length order.items ≤ vec_capacity awake },
     ghost few: { length order.items ≤ MAX_CONNECTIONS },
     ghost rising: { RisesBetween 0 (view taker.pass).taken (served clients order.items) } by { rises_prop 0 (view taker.pass).taken (served clients order.items) },
 }
@@ -55,21 +60,63 @@ impl<S: Read + Write + Drop> Drop for Worker<S> {
         let Worker {
             clients,
             order,
+            awake,
             resting,
             taker,
         } = self;
         drop(clients);
         drop(order);
+        drop(awake);
         drop(resting);
         drop(taker);
     }
 }
 
-// The keys of connections, in order of their numbers, and which of them are at rest.
+// The keys of connections, in order of their numbers, those of them that may have something to do, and which of them are at
+// rest: the first and the last are named for the contracts alone.
 #[derive(Clone, Copy)]
 struct Keys<'a> {
     order: &'a [usize],
+    awake: &'a [usize],
     resting: &'a Resting,
+}
+
+// The number of the connection at this key, or 0 where there is none.
+fn number_at<S: Read + Write + Drop>(clients: &Slab<Client<S>>, key: usize) -> u64
+    ensures { result ≡ number_in (get clients.now key) }
+{
+    match clients.get(key) {
+        Some(client) => client.number,
+        None => 0,
+    }
+}
+
+// The connection at this key has something to do: its key stands among those of such, by its number.
+fn wake<S: Read + Write + Drop>(
+    clients: &Slab<Client<S>>,
+    awake: &mut Vec<usize>,
+    resting: &mut Resting,
+    key: usize,
+)
+    ensures notes { resting.new.notes.items ≡ slice_set resting.old.notes.items key false }
+    ensures awake { Wakes clients.now resting.old.notes.items key awake.old awake.new }
+{
+    if !resting.is_noted(key) {
+        return;
+    }
+    resting.wake(key);
+    let number = number_at(clients, key);
+    let place = awake.partition_point(|other| number_at(clients, *other) < number);
+    let _full = awake.insert(place, key);
+}
+
+// Each has something to do.
+fn wake_all(order: &[usize], awake: &mut Vec<usize>)
+    requires { length order.now ≤ vec_capacity awake.old }
+    ensures { (awake.new.items ≡ order.now) × (vec_capacity awake.new ≡ vec_capacity awake.old) }
+{
+    awake.clear();
+    let _full = awake.extend_from_slice(order);
 }
 
 // A round of turns: by which routes and hooks, at what time, and where its memory comes from.
@@ -90,61 +137,54 @@ fn serve_all<S: Read + Write + Drop, P: Port, H: PresenceHooks>(
 )
     requires kept { AreKept clients.old keys.order.now }
     requires at_rest { AreAtRest clients.old keys.resting.now.notes.items keys.order.now }
+    requires awake { AreAwake keys.resting.now.notes.items keys.order.now keys.awake.now }
     ensures kept { AreKept clients.new keys.entry.order.now }
     ensures at_rest { AreAtRest clients.new keys.entry.resting.now.notes.items keys.entry.order.now }
     ensures serves { ServesKeys (around S.remaining S.contents P.step H.PresenceHooks round.entry.hooks.now)
         round.entry.routes.now round.entry.now keys.entry.order.now clients.old clients.new port.old port.new }
 {
-    for key in keys.order {
-        if !keys.resting.is_noted(*key) {
-            if let Some(client) = clients.get_mut(*key) {
-                client.turn(round.alloc, port, round.routes, round.hooks, round.now);
-            }
+    for key in keys.awake {
+        if let Some(client) = clients.get_mut(*key) {
+            client.turn(round.alloc, port, round.routes, round.hooks, round.now);
         }
     }
 }
 
 // What waits for the connection at each key is delivered, one behind the other over the same port.
 fn deliver_all<S: Read + Write + Drop, P: Port, H: PresenceHooks>(
-    alloc: Global,
     clients: &mut Slab<Client<S>>,
     keys: Keys<'_>,
     port: &mut P,
     hooks: &H,
+    frames: &Frames,
 )
     requires kept { AreKept clients.old keys.order.now }
     requires at_rest { AreAtRest clients.old keys.resting.now.notes.items keys.order.now }
+    requires awake { AreAwake keys.resting.now.notes.items keys.order.now keys.awake.now }
     ensures kept { AreKept clients.new keys.entry.order.now }
     ensures at_rest { AreAtRest clients.new keys.entry.resting.now.notes.items keys.entry.order.now }
     ensures delivers { DeliversKeys (around S.remaining S.contents P.step H.PresenceHooks hooks.now)
         keys.entry.order.now clients.old clients.new port.old port.new }
 {
-    for key in keys.order {
-        if !keys.resting.is_noted(*key) {
-            if let Some(client) = clients.get_mut(*key) {
-                client.deliver(alloc, port, hooks);
-            }
+    for key in keys.awake {
+        if let Some(client) = clients.get_mut(*key) {
+            client.deliver(port, hooks, frames);
         }
     }
 }
 
 // Each sends what waits.
-fn send_all<S: Read + Write + Drop>(
-    clients: &mut Slab<Client<S>>,
-    order: &[usize],
-    resting: &Resting,
-)
-    requires kept { AreKept clients.old order.now }
-    requires at_rest { AreAtRest clients.old resting.now.notes.items order.now }
-    ensures kept { AreKept clients.new order.now }
-    ensures at_rest { AreAtRest clients.new resting.now.notes.items order.now }
-    ensures sends { SendsAll S.contents (served clients.old order.now) (served clients.new order.now) }
+fn send_all<S: Read + Write + Drop>(clients: &mut Slab<Client<S>>, keys: Keys<'_>)
+    requires kept { AreKept clients.old keys.order.now }
+    requires at_rest { AreAtRest clients.old keys.resting.now.notes.items keys.order.now }
+    requires awake { AreAwake keys.resting.now.notes.items keys.order.now keys.awake.now }
+    ensures kept { AreKept clients.new keys.entry.order.now }
+    ensures at_rest { AreAtRest clients.new keys.entry.resting.now.notes.items keys.entry.order.now }
+    ensures sends { SendsAll S.contents (served clients.old keys.entry.order.now) (served clients.new keys.entry.order.now) }
 {
-    for key in order {
-        if !resting.is_noted(*key) {
-            if let Some(client) = clients.get_mut(*key) {
-                client.flush();
-            }
+    for key in keys.awake {
+        if let Some(client) = clients.get_mut(*key) {
+            client.flush();
         }
     }
 }
@@ -191,16 +231,9 @@ fn stop_each<S: Read + Write + Drop>(
 }
 
 // Whether the connection at this key has ended.
-fn has_ended_at<S: Read + Write + Drop>(
-    clients: &Slab<Client<S>>,
-    resting: &Resting,
-    key: usize,
-) -> bool
-    ensures { result ≡ (not (is_noted resting.now.notes.items key) && ended_at (get clients.now key)) }
+fn has_ended_at<S: Read + Write + Drop>(clients: &Slab<Client<S>>, key: usize) -> bool
+    ensures { result ≡ ended_at (get clients.now key) }
 {
-    if resting.is_noted(key) {
-        return false;
-    }
     match clients.get(key) {
         Some(client) => client.has_ended(),
         None => false,
@@ -208,19 +241,16 @@ fn has_ended_at<S: Read + Write + Drop>(
 }
 
 // Those that have ended go from their keys: whether there was one.
-fn let_go<S: Read + Write + Drop>(
-    clients: &mut Slab<Client<S>>,
-    order: &[usize],
-    resting: &Resting,
-) -> bool
-    requires kept { AreKept clients.old order.now }
-    requires at_rest { AreAtRest clients.old resting.now.notes.items order.now }
-    ensures left { AreLeft clients.old clients.new order.now }
+fn let_go<S: Read + Write + Drop>(clients: &mut Slab<Client<S>>, keys: Keys<'_>) -> bool
+    requires kept { AreKept clients.old keys.order.now }
+    requires at_rest { AreAtRest clients.old keys.resting.now.notes.items keys.order.now }
+    requires awake { AreAwake keys.resting.now.notes.items keys.order.now keys.awake.now }
+    ensures left { AreLeft clients.old clients.new keys.order.now }
     ensures none { result ≡ false → clients.new ≡ clients.old }
 {
     let mut some = false;
-    for key in order {
-        if has_ended_at(clients, resting, *key) {
+    for key in keys.awake {
+        if has_ended_at(clients, *key) {
             clients.try_remove(*key);
             some = true;
         }
@@ -232,33 +262,36 @@ fn let_go<S: Read + Write + Drop>(
 fn drop_ended<S: Read + Write + Drop>(
     clients: &mut Slab<Client<S>>,
     order: &mut Vec<usize>,
+    awake: &mut Vec<usize>,
     resting: &Resting,
 )
     requires kept { AreKept clients.old order.old.items }
     requires at_rest { AreAtRest clients.old resting.now.notes.items order.old.items }
+    requires awake { AreAwake resting.now.notes.items order.old.items awake.old.items }
+    ensures awake { AreAwake resting.now.notes.items order.new.items awake.new.items }
+    ensures room { vec_capacity awake.new ≡ vec_capacity awake.old }
     ensures kept { AreKept clients.new order.new.items }
     ensures at_rest { AreAtRest clients.new resting.now.notes.items order.new.items }
     ensures few { length order.new.items ≤ length order.old.items }
     ensures left { served clients.new order.new.items ≡ filter goes_on (served clients.old order.old.items) }
 {
-    if !let_go(clients, order.as_slice(), resting) {
+    let keys = Keys {
+        order: order.as_slice(),
+        awake: awake.as_slice(),
+        resting,
+    };
+    if !let_go(clients, keys) {
         return;
     }
     let clients = &*clients;
     order.retain(|key| clients.get(*key).is_some());
+    awake.retain(|key| clients.get(*key).is_some());
 }
 
-// Whether the connection at this key has nothing to do, and that isn't noted.
-fn comes_to_rest<S: Read + Write + Drop>(
-    clients: &Slab<Client<S>>,
-    resting: &Resting,
-    key: usize,
-) -> bool
-    ensures { result ≡ (not (is_noted resting.now.notes.items key) && rests_at (get clients.now key)) }
+// Whether the connection at this key has nothing to do.
+fn rests_there<S: Read + Write + Drop>(clients: &Slab<Client<S>>, key: usize) -> bool
+    ensures { result ≡ rests_at (get clients.now key) }
 {
-    if resting.is_noted(key) {
-        return false;
-    }
     match clients.get(key) {
         Some(client) => client.rests(),
         None => false,
@@ -266,19 +299,44 @@ fn comes_to_rest<S: Read + Write + Drop>(
 }
 
 // Those that have nothing to do any more are noted.
-fn settle<S: Read + Write + Drop>(clients: &Slab<Client<S>>, order: &[usize], resting: &mut Resting)
+fn note_rest<S: Read + Write + Drop>(
+    clients: &Slab<Client<S>>,
+    order: &[usize],
+    awake: &[usize],
+    resting: &mut Resting,
+)
     requires { AreAtRest clients.now resting.old.notes.items order.now }
-    ensures { AreAtRest clients.now resting.new.notes.items order.now }
+    ensures at_rest { AreAtRest clients.now resting.new.notes.items order.now }
+    ensures kept { KeepsNotes resting.old.notes.items resting.new.notes.items }
 {
-    for key in order {
-        if comes_to_rest(clients, resting, *key) {
+    let _order = order;
+    for key in awake {
+        if rests_there(clients, *key) {
             resting.settle(*key);
         }
     }
 }
 
+// The same, and they stand no more among those that may have something to do.
+fn settle<S: Read + Write + Drop>(
+    clients: &Slab<Client<S>>,
+    order: &[usize],
+    awake: &mut Vec<usize>,
+    resting: &mut Resting,
+)
+    requires at_rest { AreAtRest clients.now resting.old.notes.items order.now }
+    requires awake { AreAwake resting.old.notes.items order.now awake.old.items }
+    ensures at_rest { AreAtRest clients.now resting.new.notes.items order.now }
+    ensures awake { AreAwake resting.new.notes.items order.now awake.new.items }
+    ensures room { vec_capacity awake.new ≡ vec_capacity awake.old }
+{
+    note_rest(clients, order, awake.as_slice(), resting);
+    let resting = &*resting;
+    awake.retain(|key| !resting.is_noted(*key));
+}
+
 impl<S: Read + Write + Drop> Worker<S> {
-    ghost use Rattle.serve_connections.specs.Serving.{served_by};
+    ghost use Rattle.serve_connections.specs.Serving.{awake_by, served_by};
 
     /// A worker at this end of the queue that serves nobody yet.
     pub fn new(alloc: Global, taker: Taker<WebSocket<S, NoMask>>) -> Worker<S>
@@ -287,6 +345,7 @@ impl<S: Read + Write + Drop> Worker<S> {
         Worker {
             clients: Slab::new(alloc),
             order: Vec::new(alloc),
+            awake: Vec::new(alloc),
             resting: Resting::new(alloc),
             taker,
         }
@@ -306,16 +365,20 @@ impl<S: Read + Write + Drop> Worker<S> {
         self.clients.get(*self.order.get(place)?)
     }
 
-    /// The connection at this place, of all in order of their numbers, unless it has nothing to do: it takes no turn,
-    /// nothing of it waits to be sent, and it hasn't ended.
-    pub fn due_at(&self, place: usize) -> Option<&Client<S>>
-        ensures { FindsDue (slice_get (served_by self.now) place) (option_copied result) }
+    /// How many connections may have something to do. Each other one takes no turn, nothing of it waits to be sent, and it
+    /// hasn't ended.
+    pub fn awake(&self) -> usize
+        ensures count { result ≡ length (awake_by self.now) }
+        ensures others { OthersRest (served_by self.now) (awake_by self.now) }
     {
-        let key = *self.order.get(place)?;
-        if self.resting.is_noted(key) {
-            return None;
-        }
-        self.clients.get(key)
+        self.awake.len()
+    }
+
+    /// The connection at this place, of those that may have something to do, in order of their numbers.
+    pub fn awake_at(&self, place: usize) -> Option<&Client<S>>
+        ensures { option_copied result ≡ slice_get (awake_by self.now) place }
+    {
+        self.clients.get(*self.awake.get(place)?)
     }
 
     /// The connection of this token, if one has it.
@@ -332,7 +395,7 @@ impl<S: Read + Write + Drop> Worker<S> {
     {
         if let Some(client) = self.clients.get_mut(token) {
             client.get_ready();
-            self.resting.wake(token);
+            wake(&self.clients, &mut self.awake, &mut self.resting, token);
         }
     }
 
@@ -344,7 +407,7 @@ impl<S: Read + Write + Drop> Worker<S> {
     {
         if let Some(client) = self.clients.get_mut(token) {
             client.hold();
-            self.resting.wake(token);
+            wake(&self.clients, &mut self.awake, &mut self.resting, token);
         }
     }
 
@@ -354,6 +417,7 @@ impl<S: Read + Write + Drop> Worker<S> {
             ≡ map readied (served_by self.old) }
     {
         mark_each(&mut self.clients, self.order.as_slice(), &mut self.resting);
+        wake_all(self.order.as_slice(), &mut self.awake);
     }
 
     /// Ends the connection of this token since the server stops, if one of this worker's has it: its client is told so at the
@@ -363,7 +427,7 @@ impl<S: Read + Write + Drop> Worker<S> {
     {
         if let Some(client) = self.clients.get_mut(token) {
             client.stop();
-            self.resting.wake(token);
+            wake(&self.clients, &mut self.awake, &mut self.resting, token);
         }
     }
 
@@ -395,6 +459,7 @@ impl<S: Read + Write + Drop> Worker<S> {
         ensures { StopsAll S.contents (served_by self.old) (served_by self.new) }
     {
         stop_each(&mut self.clients, self.order.as_slice(), &mut self.resting);
+        wake_all(self.order.as_slice(), &mut self.awake);
     }
 
     /// One turn, at this time: each connection that is ready, in order of its number, has at most one
@@ -412,6 +477,7 @@ impl<S: Read + Write + Drop> Worker<S> {
     {
         let keys = Keys {
             order: self.order.as_slice(),
+            awake: self.awake.as_slice(),
             resting: &self.resting,
         };
         let round = Round {
@@ -425,24 +491,40 @@ impl<S: Read + Write + Drop> Worker<S> {
 
     /// A turn in which nothing is read: each connection that is ready, in order of its number, has what waits for its
     /// session delivered, and stays ready.
-    pub fn deliver<P: Port, H: PresenceHooks>(&mut self, alloc: Global, port: &mut P, hooks: &H)
+    pub fn deliver<P: Port, H: PresenceHooks>(&mut self, port: &mut P, hooks: &H, frames: &Frames)
         ensures { DeliversAll (around S.remaining S.contents P.step H.PresenceHooks hooks.now)
             (served_by self.old) (served_by self.new) port.old port.new }
     {
         let keys = Keys {
             order: self.order.as_slice(),
+            awake: self.awake.as_slice(),
             resting: &self.resting,
         };
-        deliver_all(alloc, &mut self.clients, keys, port, hooks);
+        deliver_all(&mut self.clients, keys, port, hooks, frames);
     }
 
     /// Hands what waits to be sent to the streams, and gives up the connections that have ended.
     pub fn flush(&mut self)
         ensures { Sends S.contents (served_by self.old) (served_by self.new) }
     {
-        send_all(&mut self.clients, self.order.as_slice(), &self.resting);
-        drop_ended(&mut self.clients, &mut self.order, &self.resting);
-        settle(&self.clients, self.order.as_slice(), &mut self.resting);
+        let keys = Keys {
+            order: self.order.as_slice(),
+            awake: self.awake.as_slice(),
+            resting: &self.resting,
+        };
+        send_all(&mut self.clients, keys);
+        drop_ended(
+            &mut self.clients,
+            &mut self.order,
+            &mut self.awake,
+            &self.resting,
+        );
+        settle(
+            &self.clients,
+            self.order.as_slice(),
+            &mut self.awake,
+            &mut self.resting,
+        );
     }
 }
 
@@ -466,6 +548,8 @@ impl<S: Read + Write + Drop + CarriesToken> Worker<S> {
         }
         let settings = settings.share()?;
         self.order.reserve(1)?;
+        let more = self.order.len().saturating_sub(self.awake.len());
+        self.awake.reserve(more.saturating_add(1))?;
         self.clients.reserve(1)?;
         let Numbered { number, stream } = match self.taker.take(rt) {
             Ok(connection) => connection,
@@ -482,6 +566,7 @@ impl<S: Read + Write + Drop + CarriesToken> Worker<S> {
             connection: Connection::taken(alloc, stream, number, now, settings),
         });
         self.order.push_reserved(key);
+        self.awake.push_reserved(key);
         Ok(None)
     }
 

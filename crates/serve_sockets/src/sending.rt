@@ -1,11 +1,12 @@
 //! `send_all`: texts to a client in their order.
-ghost use Rattle.std.specs.Prelude.{◌≡◌, ◌<◌, [], ◌∷◌, false, length, map, string_bytes, OnOk, IfErr};
+ghost use Rattle.std.specs.Prelude.{◌≡◌, ◌<◌, [], ◌∷◌, false, true, length, map, string_bytes, OnOk, IfOk, IfErr};
 ghost use Rattle.serve_sockets.specs.Passing.{passes as passes_in, is_passing as passing_in};
 ghost use Rattle.serve_sockets.specs.Sending.{SentAll, Stops};
 
+use crate::framed::Framed;
 use crate::web_socket::WebSocket;
 use std::io::{ErrorKind, Read, Write};
-use tungstenite::{Error, MaskKeys, Message, Utf8Bytes};
+use tungstenite::{Error, MaskKeys};
 
 fn passes(kind: ErrorKind) -> bool
     ensures { result ≡ passes_in kind }
@@ -23,22 +24,39 @@ pub fn is_passing(error: &Error) -> bool
     }
 }
 
-// Puts a text in what waits to be sent, without a copy of its own. A stream that takes none for now leaves it there.
-#[tactic(auto, using(crate::proofs::Sendings::wrote, crate::proofs::Stopping::stops_at, crate::proofs::Stopping::stops_for_memory))]
-fn queue_text<S: Read + Write + Drop, K: MaskKeys + Drop>(
+/// Puts a text in what waits to be sent. A stream that takes none for now leaves it there.
+#[tactic(auto, using(crate::proofs::Sendings::wrote, crate::proofs::Stopping::stops_at))]
+pub fn queue_text<S: Read + Write + Drop, K: MaskKeys + Drop>(
     socket: &mut WebSocket<S, K>,
-    text: String,
+    text: &str,
 ) -> Result<(), Error>
-    ensures sent { OnOk result (SentAll S.contents socket.old socket.new (string_bytes text ∷ [])) }
-    ensures stops { IfErr result (Stops S.contents socket.old socket.new (string_bytes text ∷ [])) }
+    ensures sent { OnOk result (SentAll S.contents socket.old socket.new (text.now ∷ [])) }
+    ensures stops { IfErr result (Stops S.contents socket.old socket.new (text.now ∷ [])) }
     ensures lasts { IfErr result (λ e. passing_in e ≡ false) }
 {
-    let Ok(words) = Utf8Bytes::from_string(text) else {
-        return Err(Error::OutOfMemory);
-    };
-    match socket.write(Message::Text(words)) {
+    match socket.write_text(text) {
         Ok(()) => Ok(()),
         Err(error) if is_passing(&error) => Ok(()),
+        Err(error) => Err(error),
+    }
+}
+
+/// Puts a text in what waits to be sent by its frame, where a server may write: whether it did. Elsewhere nothing is done.
+/// So many bytes more are expected behind it.
+#[tactic(auto, using(crate::proofs::Sendings::wrote, crate::proofs::Stopping::stops_at))]
+pub fn queue_framed<S: Read + Write + Drop, K: MaskKeys + Drop>(
+    socket: &mut WebSocket<S, K>,
+    framed: &Framed,
+    more: usize,
+) -> Result<bool, Error>
+    ensures sent { IfOk result (λ did. did ≡ true → SentAll S.contents socket.old socket.new (framed.now ∷ [])) }
+    ensures not { IfOk result (λ did. did ≡ false → socket.new ≡ socket.old) }
+    ensures stops { IfErr result (Stops S.contents socket.old socket.new (framed.now ∷ [])) }
+    ensures lasts { IfErr result (λ e. passing_in e ≡ false) }
+{
+    match socket.write_framed(framed, more) {
+        Ok(did) => Ok(did),
+        Err(error) if is_passing(&error) => Ok(true),
         Err(error) => Err(error),
     }
 }
@@ -54,7 +72,7 @@ pub fn queue_all<S: Read + Write + Drop, K: MaskKeys + Drop>(
     ensures lasts { IfErr result (λ e. passing_in e ≡ false) }
 {
     for text in texts {
-        match queue_text(socket, text) {
+        match queue_text(socket, text.as_str()) {
             Ok(()) => {}
             Err(error) => return Err(error),
         }

@@ -65,6 +65,8 @@ pub struct ClientStream<S> {
     stalled: Cell<Option<Stall>>,
     /// Whether a read has to ask the system.
     news: Cell<News>,
+    /// Whether its client ends its side, so that a read which gives less than was asked for isn't the last.
+    closes: Cell<bool>,
     /// Where its client is.
     address: Option<IpAddr>,
     /// Whether its client is cut off, since it doesn't take what is sent.
@@ -95,6 +97,7 @@ impl<S: Drop> Drop for ClientStream<S> {
             received: _,
             stalled: _,
             news: _,
+            closes: _,
             address: _,
             is_given_up: _,
             neighbour,
@@ -160,6 +163,7 @@ impl<S> ClientStream<S> {
             received: 0,
             stalled: Cell::new(None),
             news: Cell::new(News::Untold),
+            closes: Cell::new(false),
             address: None,
             is_given_up: Cell::new(false),
             neighbour: None,
@@ -238,6 +242,12 @@ impl<S> ClientStream<S> {
         if self.news.get() == News::Nothing {
             self.news.set(News::Some);
         }
+    }
+
+    /// Its client has ended its side, behind what may have come.
+    pub fn closes(&self) {
+        self.closes.set(true);
+        self.has_news();
     }
 
     /// Where the next turn is put off, the one behind it is to end a long text.
@@ -327,6 +337,14 @@ impl<S: Read> ClientStream<S> {
         }
     }
 
+    // Notes that a read gave so many bytes of those that it asked for. Where it is told when something comes, fewer are all
+    // that there were.
+    fn found(&self, count: usize, asked: usize) {
+        if count < asked && self.news.get() == News::Some && !self.closes.get() {
+            self.news.set(News::Nothing);
+        }
+    }
+
     // Ends the turn: the next one may have as much again, or what ends a long text.
     fn put_off(&mut self) -> io::Error
         ensures left { IsTurn self.new.left }
@@ -354,6 +372,7 @@ impl<S: Read> Read for ClientStream<S> {
     {
         self.waiting = None;
         if self.news.get() == News::Nothing {
+            self.found_nothing();
             return Err(io::Error::from(ErrorKind::WouldBlock));
         }
         if self.left == 0 {
@@ -363,6 +382,7 @@ impl<S: Read> Read for ClientStream<S> {
         let most = buf.len().min(self.left);
         match self.stream.read(&mut buf[..most]) {
             Ok(count) => {
+                self.found(count, most);
                 self.left -= count;
                 self.received = self.received.saturating_add(count as u64);
                 Ok(count)

@@ -1,18 +1,19 @@
 //! A WebSocket over a stream.
-ghost use Rattle.std.specs.Prelude.{◌≡◌, ◌≤◌, ◌<◌, ◌⊎◌, [], false, length, drop, OnOk, OnErr, IfOk, IfErr, IfSome};
+ghost use Rattle.std.specs.Prelude.{◌≡◌, ◌≤◌, ◌<◌, ◌⊎◌, [], false, true, length, drop, OnOk, OnErr, IfOk, IfErr, IfSome};
 ghost use Rattle.std.specs.Io.KnownBytes.{Keeps, IsAtEnd};
 ghost use Rattle.tungstenite.specs.Config.{HasLimits};
 ghost use Rattle.tungstenite.specs.Failure.{IsIo, IsOutside, WriteFails, of_frame};
 ghost use Rattle.tungstenite.specs.Socket.{Socket, socket_code, Sent, Filled, Reads, Gives, Writes, Flushed, IsFresh, Waited, byte_count, content_of, close_of};
 ghost use Rattle.tungstenite.specs.declared.error.Error.TheVariants.{WriteBufferFull, OutOfMemory};
-ghost use Rattle.websocket.specs.Connection.{read_step, write_step, close_step, end_error, can_read, failed_connection};
-ghost use Rattle.websocket.specs.Content.{IsReceivedInside, HasValidText, received_content};
+ghost use Rattle.websocket.specs.Connection.{read_step, write_step, close_step, end_error, can_read, failed_connection, is_server as serves};
+ghost use Rattle.websocket.specs.Content.{IsReceivedInside, HasValidText, received_content, text as text_content};
 ghost use Rattle.websocket.specs.View.{Returns, ReadLeaves, KeepsRest, IfMessage, IfReceived, Leaves, GivesError};
 ghost use Rattle.serve_sockets.specs.Kept.{HasNoRoom, IsKept};
 ghost use Rattle.serve_sockets.specs.declared.buffer.TheConstants.{KEPT_BYTES};
 
-use crate::buffer::give_back;
+use crate::buffer::{give_all_back, give_back};
 use crate::carrying::CarriesToken;
+use crate::framed::Framed;
 use std::alloc::{AllocError, Global};
 use std::io;
 use std::io::{ErrorKind, Read, Write};
@@ -22,12 +23,16 @@ use tungstenite::{CloseFrame, Error, MaskKeys, Message, Role, WebSocketConfig};
 use websocket::error::Error as FrameError;
 use websocket::protocol::frame::FrameHeader;
 use websocket::protocol::{
-    FrameStatus, Received, Step, WebSocketConfig as FrameConfig, WebSocketContext,
+    FrameStatus, Message as FrameMessage, Received, Step, WebSocketConfig as FrameConfig,
+    WebSocketContext,
 };
 
 /// How many bytes may wait to be sent: a frame of 16 MiB, and 1 MiB before it. What would be more is refused, whatever a
 /// configuration says.
 pub const MAX_WAITING: usize = 17_825_792;
+
+// How many bytes one read of a stream asks for at most.
+const CHUNK_BYTES: usize = 256;
 
 /// A WebSocket on a stream. `K` gives a client's masking keys.
 #[derive(Drop)]
@@ -36,7 +41,11 @@ pub struct WebSocket<S, K> {
     stream: S,
     keys: K,
     context: WebSocketContext,
-    config: WebSocketConfig,
+    // Whether its side is a server's.
+    is_server: bool,
+    // How many bytes one read of the stream asks for, and from how many on what waits goes out by itself.
+    read_size: usize,
+    write_size: usize,
     // Bytes that were read, from `start` on.
     input: Vec<u8>,
     start: usize,
@@ -45,8 +54,9 @@ pub struct WebSocket<S, K> {
     // Bytes to send, from `sent` on.
     output: Vec<u8>,
     sent: usize,
-    // Where a read of the stream puts its bytes.
-    chunk: Vec<u8>,
+    // Whether bytes that were read are lost, since there was no memory for them.
+    has_lost: bool,
+    ghost role: { is_server ≡ serves context.role },
 }
 
 impl<S, K> Model for WebSocket<S, K> {
@@ -73,16 +83,6 @@ fn frame_config(config: &WebSocketConfig) -> FrameConfig
         max_frame_size: config.max_frame_size,
         accept_unmasked_frames: config.accept_unmasked_frames,
     }
-}
-
-// A chunk gets so many bytes.
-fn sized(chunk: &mut Vec<u8>, size: usize) -> Result<(), AllocError>
-    ensures { OnOk result (length chunk.new.items ≡ size) }
-{
-    if chunk.len() != size {
-        chunk.resize(size, 0)?;
-    }
-    Ok(())
 }
 
 // How many bytes the frame has that begins here.
@@ -124,13 +124,15 @@ impl<S: Drop, K: Drop> WebSocket<S, K> {
             stream,
             keys,
             context: WebSocketContext::new(alloc, role, frame_config(&config)),
-            config,
+            is_server: matches!(role, Role::Server),
+            read_size: config.read_buffer_size,
+            write_size: config.write_buffer_size,
             input: Vec::new(alloc),
             start: 0,
             fragments: 0,
             output: Vec::new(alloc),
             sent: 0,
-            chunk: Vec::new(alloc),
+            has_lost: false,
         }
     }
 
@@ -247,10 +249,65 @@ impl<S: Read + Write + Drop, K: MaskKeys + Drop> WebSocket<S, K> {
             return Err(Error::WriteBufferFull);
         }
         self.write_frame(&message)?;
-        if self.waiting() >= self.config.write_buffer_size {
+        if self.waiting() >= self.write_size {
             self.send_output()?;
         }
         Ok(())
+    }
+
+    /// Puts a text in the output, as `write` does a message of it, which isn't made.
+    pub fn write_text(&mut self, words: &str) -> Result<(), Error>
+        ensures wrote { OnOk result
+            (Writes S.contents self.old self.new (write_step self.old.conn (text_content words.now))) }
+        ensures failed { IfErr result (WriteFails (write_step self.old.conn (text_content words.now))) }
+        ensures full { IfErr result (λ e. e ≡ WriteBufferFull →
+            (self.new ≡ self.old) × HasNoRoom self.old.output (length words.now)) }
+        ensures stream_failed { IfErr result (λ e. IsIo e →
+            Writes S.contents self.old self.new (write_step self.old.conn (text_content words.now))) }
+        ensures memory { IfErr result (λ e. e ≡ OutOfMemory → self.new ≡ self.old) }
+    {
+        if self.waiting().saturating_add(words.len()) > MAX_WAITING {
+            return Err(Error::WriteBufferFull);
+        }
+        self.write_words(words)?;
+        if self.waiting() >= self.write_size {
+            self.send_output()?;
+        }
+        Ok(())
+    }
+
+    /// Puts a text in the output by its frame, which is copied, where a server may write: whether it did. Elsewhere nothing
+    /// is done. So many bytes more are expected behind it, for which there is room then too, as far as there is memory.
+    pub fn write_framed(&mut self, framed: &Framed, more: usize) -> Result<bool, Error>
+        ensures wrote { IfOk result (λ did. did ≡ true →
+            Writes S.contents self.old self.new (write_step self.old.conn (text_content framed.now))) }
+        ensures not { IfOk result (λ did. did ≡ false → self.new ≡ self.old) }
+        ensures failed { IfErr result (WriteFails (write_step self.old.conn (text_content framed.now))) }
+        ensures full { IfErr result (λ e. e ≡ WriteBufferFull →
+            (self.new ≡ self.old) × HasNoRoom self.old.output (length framed.now)) }
+        ensures stream_failed { IfErr result (λ e. IsIo e →
+            Writes S.contents self.old self.new (write_step self.old.conn (text_content framed.now))) }
+        ensures memory { IfErr result (λ e. e ≡ OutOfMemory → self.new ≡ self.old) }
+    {
+        if !self.is_server || !self.context.can_write() {
+            return Ok(false);
+        }
+        if self.waiting().saturating_add(framed.text().len()) > MAX_WAITING {
+            return Err(Error::WriteBufferFull);
+        }
+        let frame = framed.frame();
+        if self
+            .output
+            .reserve(frame.len().saturating_add(more))
+            .is_err()
+        {
+            self.output.reserve(frame.len())?;
+        }
+        self.output.extend_from_slice(frame)?;
+        if self.waiting() >= self.write_size {
+            self.send_output()?;
+        }
+        Ok(true)
     }
 
     /// Sends all of the output, and flushes the stream.
@@ -290,6 +347,24 @@ impl<S: Read + Write + Drop, K: MaskKeys + Drop> WebSocket<S, K> {
         let outcome = self
             .context
             .write(message.as_frame(), &mut self.output, &mut self.keys);
+        give_back(self.alloc, &mut self.output, &mut self.sent);
+        outcome
+    }
+
+    // A text as a frame in the output.
+    fn write_words(&mut self, words: &str) -> Result<(), FrameError>
+        ensures ok { OnOk result
+            (Leaves (write_step self.old.conn (text_content words.now)) self.new.conn self.old.output self.new.output) }
+        ensures failed { IfErr result (GivesError (write_step self.old.conn (text_content words.now))) }
+        ensures stream { self.new.stream ≡ self.old.stream }
+        ensures input { self.new.input ≡ self.old.input }
+        ensures kept { OnErr result (self.new ≡ self.old) }
+    {
+        let outcome = self.context.write(
+            FrameMessage::Text(words),
+            &mut self.output,
+            &mut self.keys,
+        );
         give_back(self.alloc, &mut self.output, &mut self.sent);
         outcome
     }
@@ -362,7 +437,7 @@ impl<S: Read + Write + Drop, K: MaskKeys + Drop> WebSocket<S, K> {
             None => None,
         };
         self.start += step.consumed;
-        give_back(self.alloc, &mut self.input, &mut self.start);
+        give_all_back(self.alloc, &mut self.input, &mut self.start);
         message
     }
 
@@ -451,14 +526,19 @@ impl<S: Read + Write + Drop, K: MaskKeys + Drop> WebSocket<S, K> {
         ensures ended { IfErr result (λ e. e ≡ of_frame (end_error self.old.conn.state) →
             IsOutside e ⊎ IsAtEnd (S.remaining self.new.stream)) }
     {
+        if self.has_lost {
+            return Err(Error::OutOfMemory);
+        }
         self.compact();
-        let size = self.config.read_buffer_size.max(1);
-        self.input.reserve(size)?;
-        sized(&mut self.chunk, size)?;
-        match self.stream.read(&mut self.chunk) {
+        let mut chunk = [0; CHUNK_BYTES];
+        let size = self.read_size.clamp(1, CHUNK_BYTES);
+        match self.stream.read(&mut chunk[..size]) {
             Ok(0) => Err(self.context.end_of_input().into()),
             Ok(n) => {
-                self.input.extend_from_slice(&self.chunk[..n])?;
+                if self.input.extend_from_slice(&chunk[..n]).is_err() {
+                    self.has_lost = true;
+                    return Err(Error::OutOfMemory);
+                }
                 Ok(())
             }
             Err(error) => Err(Error::Io(error)),

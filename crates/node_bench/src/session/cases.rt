@@ -1,6 +1,6 @@
 //! What is timed of a session.
 use crate::making::{ROOM, meta, numbered, replica, topic};
-use channel_session::{Channels, Session, SessionFault, deliver, run_text};
+use channel_session::{Channels, Session, SessionFault, deliver, run_text, write_all};
 use hook_registry::{NoHooks, RouteFault, Routes};
 use presence_base::Topic;
 use presence_stdio::LocalPort;
@@ -87,7 +87,10 @@ fn take_waiting(
 ) -> Result<Vec<String>, SessionFault> {
     let mut port = LocalPort::new(shard);
     match deliver(alloc, session, &mut port, &NoHooks, 256) {
-        Ok(delivery) => Ok(delivery.texts),
+        Ok(delivery) => match write_all(alloc, delivery.texts) {
+            Ok(texts) => Ok(texts),
+            Err(_) => Err(SessionFault::OutOfMemory),
+        },
         Err(fault) => Err(fault),
     }
 }

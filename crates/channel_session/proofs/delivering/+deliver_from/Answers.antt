@@ -54,7 +54,7 @@ returns g t c = λ said s h.
     let j = joined_of (c.in-Some.topic.now, c.in-Some.join.now) in
     let e = here (joined_in c.args.topics.now) c.args.index (joined_of (c.in-Some.topic.now, c.in-Some.join.now)) c.in-Some.ensures in
     let added : Carries (worded_by g.H.PresenceHooks c.args.dealing.hooks.now) (noted_by g.H.PresenceHooks c.args.dealing.hooks.now) (said ++ map (told j) c.in-Ok.items.items) c.in-Ok-spoiling.told =
-    rw c.deref.ensures.value at (rw c.in-Ok-spoiling.ensures.ok at (c.add_items.ensures said h)) in
+    rw c.in-Ok-spoiling.ensures.ok at (c.add_items.ensures said h) in
     let rest = c.deliver_from-rest.ensures (said ++ map (told j) c.in-Ok.items.items) s added in
     record {
       said = rest.said;
